@@ -36,7 +36,7 @@ one_batch_text one board (block ∷ blocks) text other (diagnosis, later, is, ar
 abbrev pub texts_after : RawBoard → List Block → List Verdict → ℕ → List ℕ
 texts_after board blocks verdicts i = batch_text board (drop i blocks) (drop i verdicts)
 
--- if printing continues with `rest` at `now`, `whole` is printed from `start` on
+-- a sink that prints `rest` from the state `now` on has printed `whole` from the state `start` on, with the same result
 abbrev pub Completes : Shown → Shown → List ℕ → List ℕ → Type 0
 Completes start now rest whole =
     (new : Shown) (r : Result (Unit {0}) PutFault) → Prints now new [] [] rest r

@@ -76,7 +76,7 @@ all_wanted : (command : Command) (asked asked' : List Text) → Asks asked asked
     → Asks asked asked' (names_in (wanted_of command))
 all_wanted command asked asked' asks = subst (Asks asked asked') (sym (wanted_names command)) asks
 
--- if the read of a command's texts succeeded, the texts make the request, and each text was asked for once and in order
+-- if the read of a command's texts succeeded, the texts make the request, and the run asked for each text once and in order
 pub was_read : (command : Command) {held held' : Held} {before now : Text → ℕ}
     {asked asked' : List Text} {request : Request}
     → Reads (OfRequest command) (wanted_of command) held held' before now asked asked' (Ok request)

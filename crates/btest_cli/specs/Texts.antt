@@ -77,7 +77,7 @@ abbrev pub IsLong : Held → Wanted → Type 0
 IsLong None wanted = (text : Text) × (wanted.limit < length text)
 IsLong (Some held) wanted = (text : Text) × (held wanted.name ≡ Some text) × (wanted.limit < length text)
 
--- between the two states, the store was asked for these names in turn, and for no others
+-- between the two states, the run asked the store for these names in turn, and for no others
 abbrev pub Asks : List Text → List Text → List Text → Type 0
 Asks old new names = new ≡ old ++ names
 
@@ -90,7 +90,7 @@ pub record IsReadUpTo (held : Held) (texts : List Wanted) (last : Wanted) (old n
   pub read : IsRead held before (Read found)
   pub asked : Asks old new (names_in before ++ last.name ∷ [])
 
--- The store was asked for the names that this reading needs: all names, or the names up to the first text that is too long.
+-- The run asked the store for the names that this reading needs: all names, or the names up to the first text that is too long.
 abbrev pub AsksFor : Held → List Wanted → Reading → List Text → List Text → Type 0
 AsksFor held texts (Read found) old new = Asks old new (names_in texts)
 AsksFor held texts (TooLong last) old new = IsReadUpTo held texts last old new

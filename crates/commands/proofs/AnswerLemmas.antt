@@ -21,7 +21,7 @@ use Rattle.commands.specs.Requests.{BoardTexts}
 use Rattle.commands.specs.declared.texts.LogTexts.{LogTexts}
 use Rattle.commands.specs.inner.Unput.{IsPutInPart, NoBoard, PutsText, unput_batch, unput_log, unput_of}
 
--- if the command finds a fault in its texts and returns it, this is an answer
+-- if the command finds a fault in its texts, writes nothing and returns the fault, this is an answer
 pub answers_fault : {A : Type 0} (IsFound : Result A InputFault → Type 0) (text_of : A → Text)
     (IsWorth : Text → Type 0) (shown : Shown) (fault : InputFault)
     → IfSome (input_told fault) (λ f. IsFound (Err f))

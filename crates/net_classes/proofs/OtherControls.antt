@@ -31,7 +31,7 @@ use Rattle.net_classes.proofs.ClosedLemmas.{all_on, cells_there, pins_drive, tes
 use Rattle.net_classes.proofs.ControlSetLemmas.{same_set}
 use Rattle.net_classes.proofs.SharedLemmas.{driven_has}
 
--- if `t` says whether `set` has control `c`, "`d` equals `c`, and not `t`" is the same as "`d` equals `c`, and `set` does not have `d`"
+-- if `t` says whether `set` has control `c`, then for each control `d` that equals `c`, `t` also says whether `set` has `d`
 same_outside : (set : ControlSet) (c d : Ctl) (t : Bool) → has_control set c ≡ t
     → (same_ctl c d && not t) ≡ (same_ctl c d && not (has_control set d))
 same_outside set c d t e = by (same_ctl c d) refl
@@ -53,7 +53,8 @@ inside board passes others set c e is = same_set board passes (λ d. passes d ||
     same : (d : Ctl) → passes d ≡ (passes d || (same_ctl c d && not (has_control set d)))
     same d = nothing (passes d) (same_ctl c d) ∙ ap (λ t. passes d || t) (same_outside set c d true e)
 
--- if `set` does not have `c`, adding `c` to the controls that satisfy `passes` is adding the controls that equal `c` and are not in `set`
+-- If `after` is the set of the controls that satisfy `passes` or equal `c`, and `set` does not have `c`, then `after` is also the set of
+-- the controls that satisfy `passes`, or that equal `c` and are not in `set`.
 pub outside : (board : RawBoard) (passes : Ctl → Bool) (after set : ControlSet) (c : Ctl)
     → has_control set c ≡ false → IsSet board (λ d. passes d || same_ctl c d) after
     → IsSet board (λ d. passes d || (same_ctl c d && not (has_control set d))) after

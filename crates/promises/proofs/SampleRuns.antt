@@ -24,8 +24,8 @@ use Rattle.promises.proofs.RunLemmas.{same_some}
 abbrev pub ends : Held → List Text → Text → Text → Ends
 ends held asked out notes = record { held = held; asked = asked; unread = λ name. 0; out = out; unwritten = 0; notes = notes; unnoted = 0 }
 
--- A run of these words. Before the run, no name had been asked for, and nothing had been written to the output or the notes. In the run,
--- the store was asked for the names `asked`, and `out` and `notes` were written.
+-- A run of these words. Before it, nobody had asked the store for a name, and the output and the notes were empty. The run asked the store
+-- for the names `asked`, and wrote `out` and `notes`.
 abbrev pub run_of : List Text → Held → Status → List Text → Text → Text → Run
 run_of words held status asked out notes =
     record
@@ -581,7 +581,7 @@ last_is : (first : Text) (before : List Text) (name : Text) → last_of first (b
 last_is first [] name = refl
 last_is first (other ∷ before) name = last_is other before name
 
--- if the last name that was asked for is the name of the file, `last_of` returns this name
+-- if the last name for which the run asked is the name of the file, `last_of` returns this name
 last_named : (first : Text) (others : List Text) (before : List Wanted) (file : Wanted)
     → first ∷ others ≡ map (λ f. f.name) before ++ file.name ∷ [] → file.name ≡ last_of first others
 last_named first others before file asked = sym (last_is first (map (λ f. f.name) before) file.name) ∙ sym (ap (last_of first) asked)

@@ -138,7 +138,7 @@ NoReadFailed run command = (name : Text) → Contains (names_in_command command)
 abbrev pub EndsWith : Run → Command → Status → Type 0
 EndsWith run command status = NoReadFailed run command → (run.status ≡ status) ⊎ (run.status ≡ NoMemory)
 
--- the store was asked for these names in turn, and for no other name
+-- the run asked the store for these names in turn, and for no other name
 abbrev pub AskedInTurn : Run → List Text → Type 0
 AskedInTurn run names = run.new.asked ≡ run.old.asked ++ names
 
@@ -154,7 +154,7 @@ PutsNothing run = run.new.out ≡ run.old.out
 abbrev pub Notes : Run → Text → Type 0
 Notes run line = (run.new.notes ≡ run.old.notes ++ line) ⊎ (Rose run.old.unnoted run.new.unnoted × ((count : ℕ) × (run.new.notes ≡ run.old.notes ++ take count line)))
 
--- At Done, each file was asked for once and in order, the output took exactly a text for which P holds, and the notes took nothing. The
+-- At Done, the run asked for each file once and in order, the output took exactly a text for which P holds, and the notes took nothing. The
 -- status is Done, unless a read of a file failed, a write of the output failed, or memory ran out.
 pub record PrintsText (run : Run) (command : Command) (P : Text → Type 0) : Type 0 where
   pub asks : run.status ≡ Done → AskedInTurn run (names_in_command command)

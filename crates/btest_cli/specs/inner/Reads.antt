@@ -21,14 +21,14 @@ Continues held wanted front =
     (rest : List Wanted) (reading : Reading) → IsRead held rest reading
     → IsRead held (wanted ++ rest) (behind front reading)
 
--- the store was asked for some first texts of `wanted`, and for no others
+-- the run asked the store for some first texts of `wanted`, and for no others
 pub record AsksFirst (wanted : List Wanted) (asked asked' : List Text) : Type 0 where
   pub first : List Text
   pub others : List Text
   pub are : names_in wanted ≡ first ++ others
   pub asks : Asks asked asked' first
 
--- The read gave `value`, which has the texts of `wanted`. The store was asked for each of these texts once and in order.
+-- The read gave `value`, which has the texts of `wanted`. The run asked the store for each of these texts once and in order.
 pub record IsReadOf {A : Type 0} (Of : A → List Text → Type 0) (wanted : List Wanted) (held : Held)
     (asked asked' : List Text) (value : A) : Type 0 where
   pub texts : List Text
@@ -36,8 +36,8 @@ pub record IsReadOf {A : Type 0} (Of : A → List Text → Type 0) (wanted : Lis
   pub continues : Continues held wanted texts
   pub asks : Asks asked asked' (names_in wanted)
 
--- The reason says why the texts were not all read, and the store was asked for the names up to there. If a text is too long, this is the
--- reason whatever texts come after `wanted`.
+-- The reason says why the texts were not all read, and the run asked the store for the names up to there. If a text is too long, this is
+-- the reason whatever texts come after `wanted`.
 abbrev pub IsUnread : List Wanted → Held → (Text → ℕ) → (Text → ℕ) → List Text → List Text → Unread → Type 0
 IsUnread wanted held before now asked asked' (unread.TooLong last) =
     ((rest : List Wanted) → IsRead held (wanted ++ rest) (TooLong (wanted_view last)))
