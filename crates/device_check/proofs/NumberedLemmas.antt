@@ -5,11 +5,12 @@ use Rattle.board_defs.specs.Limits.{most_bits, most_instruction_bits}
 use Rattle.first_places.specs.Items.{least_from, least_below, or_else, IsLeast}
 use Rattle.device_rules.proofs.LeastLemmas.{is_least}
 use Rattle.bsdl_parser.specs.declared.entity.Entity.{Entity}
-use Rattle.device_check.specs.declared.sources.Attribute.{Attribute}
-use Rattle.device_check.specs.declared.sources.Attribute.TheVariants.{PinMap, TapScanIn, TapScanOut, TapScanMode, TapScanClock, InstructionLength, InstructionOpcode, InstructionCapture, BoundaryLength, BoundaryRegister, TapScanReset, IdcodeRegister, CompliancePatterns, ComponentConformance}
+use Rattle.bsdl_parser.specs.declared.entity.Attribute.{Attribute}
+use Rattle.bsdl_parser.specs.declared.entity.Attribute.TheVariants.{PinMap, TapScanIn, TapScanOut, TapScanMode, TapScanClock, InstructionLength, InstructionOpcode, InstructionCapture, BoundaryLength, BoundaryRegister, TapScanReset, IdcodeRegister, CompliancePatterns, ComponentConformance}
 use Rattle.device_check.specs.declared.sources.Source.{Source}
 use Rattle.device_check.specs.declared.sources.Source.TheVariants as sources
-use Rattle.device_check.specs.Sources.{attribute_number, source_number}
+use Rattle.bsdl_parser.specs.AttributeNumbers.{attribute_number}
+use Rattle.device_check.specs.Sources.{source_number}
 use Rattle.device_check.specs.Attributes.{only_value, only_port, only_number, only_text, chosen_package}
 use Rattle.device_check.specs.Needed.{need, and_then, unless_bad, within, is_repeated, conforms, found_taps, found_registers, wrong_option, found_package, v1}
 use Rattle.device_check.specs.NumberedSources.{breaks_source, reported}

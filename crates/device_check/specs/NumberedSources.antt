@@ -2,7 +2,7 @@
 use Rattle.std.specs.Prelude.{ℕ, ◌==◌, List, Bool, false, not, if◌then◌else◌, Option, Some, None, is_none, Result, Ok, Err}
 use Rattle.board_defs.specs.Limits.{most_bits, most_instruction_bits}
 use Rattle.bsdl_parser.specs.declared.entity.Entity.{Entity}
-use Rattle.device_check.specs.declared.sources.Attribute.TheVariants.{PinMap, TapScanIn, TapScanOut, TapScanMode, TapScanClock, InstructionLength, InstructionOpcode, InstructionCapture, BoundaryLength, BoundaryRegister, TapScanReset, IdcodeRegister, CompliancePatterns}
+use Rattle.bsdl_parser.specs.declared.entity.Attribute.TheVariants.{PinMap, TapScanIn, TapScanOut, TapScanMode, TapScanClock, InstructionLength, InstructionOpcode, InstructionCapture, BoundaryLength, BoundaryRegister, TapScanReset, IdcodeRegister, CompliancePatterns}
 use Rattle.device_check.specs.declared.sources.Source.{Source}
 use Rattle.device_check.specs.Sources.{source_number}
 use Rattle.device_check.specs.Attributes.{only_value, only_port, only_number, only_text, chosen_package}
