@@ -22,15 +22,15 @@ ROWS = [
     ('a file that may not be read', 'chmod 0 c; btest chain c', 3, 'cannot read c'),
     ('an empty file', 'btest chain /dev/null', 1, '/dev/null: no part in the chain'),
     ('a file without an end', 'btest chain /dev/zero', 1, '/dev/zero: longer than 4194304 bytes'),
-    ('a named pipe; btest waits for who writes to it', 'mkfifo p; cat c >p & btest chain p', 0, ''),
+    ('a named pipe; btest waits until another process writes to it', 'mkfifo p; cat c >p & btest chain p', 0, ''),
     ('a pipe', 'cat c | btest chain /dev/stdin', 0, ''),
     ('standard input that is closed', 'btest chain /dev/stdin <&-', 3, 'cannot read /dev/stdin'),
-    ('the file that the shell writes to, and makes empty', 'btest chain c >c', 1, 'c: no part in the chain'),
+    ('the file that the shell empties to write the output into it', 'btest chain c >c', 1, 'c: no part in the chain'),
     ('a name in UTF-8', 'mv c é; btest chain é', 0, ''),
     ('a name that is not UTF-8', r'btest chain "$(printf "\377")"', 2, USAGE),
     ('an empty name', 'btest chain ""', 2, USAGE),
     ('a name that begins with `-`', 'mv c ./-c; btest chain -c', 2, USAGE),
-    ('the same file by its folder', 'mv c ./-c; btest chain ./-c', 0, ''),
+    ('the same file, named with its folder', 'mv c ./-c; btest chain ./-c', 0, ''),
     ('standard output full', 'btest chain c >/dev/full', 4, 'cannot write'),
     ('standard output closed', 'btest chain c >&-', 4, 'cannot write'),
     ('a pipe whose reader left', '{ sleep 1; btest chain c; echo $? >status; } | true', 4, 'cannot write'),
@@ -43,10 +43,10 @@ ROWS = [
 # What is done to the file `c` between its first read and its second, and what comes then. Its 9 KB are two parts.
 TWO = boards.lines('BYPASS U1 4', '# ' + 'x' * 9000, 'BYPASS U2 4')
 CHANGES = [
-    ('a file that shrinks while it is read: what was read counts', lambda c: os.truncate(c, 0), 1, ''),
-    ('a file that grows while it is read: what is read counts', lambda c: append(c, b'BYPASS U3 4\n'), 3, ''),
-    ('a file that grows beyond its limit while it is read', lambda c: append(c, b'#' * 4_194_304), 0, 'c: longer than 4194304 bytes'),
-    ('a file that is deleted or replaced while it is read: the old one counts', lambda c: c.unlink(), 2, ''),
+    ('a file that becomes shorter while btest reads it; the bytes that btest has already read count', lambda c: os.truncate(c, 0), 1, ''),
+    ('a file that grows while btest reads it; the added bytes count, too', lambda c: append(c, b'BYPASS U3 4\n'), 3, ''),
+    ('a file that grows beyond its limit while btest reads it', lambda c: append(c, b'#' * 4_194_304), 0, 'c: longer than 4194304 bytes'),
+    ('a file that is deleted or replaced while btest reads it; the old file counts', lambda c: c.unlink(), 2, ''),
 ]
 
 
