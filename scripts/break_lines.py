@@ -7,13 +7,17 @@ arguments, and fills lines of 100 columns. Only white space changes. Comments, `
 that a must-fail edit names stay. Run `rt fmt` afterwards, which sets the indentation. A term of many
 parts may need a second run.
 """
-import glob
+import pathlib
 import re
 import sys
 from typing import Dict, List, NamedTuple, Optional, Set
 
+import build
+import must_fail
+
 WIDTH, LONG = 100, 140
 OPEN, CLOSE = "([{", ")]}"
+QUOTED = sys.maxsize  # the depth of what is in quotes, where no line is broken
 
 
 class Level(NamedTuple):
@@ -48,6 +52,10 @@ class Room(NamedTuple):
     first: int
     later: int
 
+    def columns(self, number: int) -> int:
+        """Returns the room of line `number`, counted from 0."""
+        return self.later if number else self.first
+
     def within(self, used: int = 0) -> "Room":
         """Returns the room inside brackets, of which `used` columns of the first line are taken."""
         return Room(self.first - used, self.later - 2)
@@ -60,22 +68,16 @@ def depths(text: str) -> List[int]:
         quoted ^= char == '"'
         if not quoted and char in CLOSE:
             depth -= 1
-        found.append(depth if not quoted else 1 << 20)
+        found.append(QUOTED if quoted else depth)
         if not quoted and char in OPEN:
             depth += 1
     return found
 
 
 def is_balanced(text: str) -> bool:
-    """Returns whether the text closes exactly the brackets that it opens."""
-    opened = sum(text.count(it) for it in OPEN)
-    found = [it for it in depths(text) if it < 1 << 20]
-    return min(found, default=0) >= 0 and not text.count('"') % 2 and closes_all(text, opened)
-
-
-def closes_all(text: str, opened: int) -> bool:
-    """Returns whether no bracket is open at the end of the text."""
-    return depths(text + " ")[-1] == 0 if opened else True
+    """Returns whether the text closes exactly the brackets and quotes that it opens."""
+    nested = depths(f"{text} ")
+    return nested[-1] == 0 == min(nested)
 
 
 def words_of(text: str) -> List[str]:
@@ -105,23 +107,15 @@ def filled(pieces: List[str], room: Room, each_alone: bool = False) -> List[str]
     """Fills lines with pieces, and breaks a piece that is longer than a line."""
     lines: List[str] = []
     for piece in pieces:
-        left = room.later if lines else room.first
+        left = room.columns(len(lines) - 1)
         if lines and lines[-1] in SIGNS:
             sign = lines.pop()
-            part = broken(
-                piece, Room((room.later if lines else room.first) - len(sign) - 1, room.later - 2)
-            )
+            part = broken(piece, Room(left - len(sign) - 1, room.later - 2))
             lines += [f"{sign} {part[0]}", *part[1:]]
-        elif (
-            lines
-            and not each_alone
-            and len(lines[-1]) + 1 + len(piece) <= (room.later if len(lines) > 1 else room.first)
-        ):
+        elif lines and not each_alone and len(lines[-1]) + 1 + len(piece) <= left:
             lines[-1] += " " + piece
-        elif len(piece) <= left:
-            lines.append(piece)
         else:
-            lines += broken(piece, Room(left, room.later - 2))
+            lines += broken(piece, Room(room.columns(len(lines)), room.later - 2))
     return lines
 
 
@@ -173,7 +167,7 @@ def fragment(text: str, room: Room) -> List[str]:
     if len(text) <= room.first:
         return [text]
     blanks = {
-        at: depth for at, depth in enumerate(depths(text)) if text[at] == " " and depth < 1 << 20
+        at: depth for at, depth in enumerate(depths(text)) if text[at] == " " and depth < QUOTED
     }
     if not blanks:
         return [text]
@@ -181,8 +175,7 @@ def fragment(text: str, room: Room) -> List[str]:
     pieces = [text[a + 1 : b] for a, b in zip([-1, *cuts], [*cuts, len(text)]) if b > a + 1]
     lines: List[str] = []
     for piece in pieces:
-        left = room.later if len(lines) > 1 else room.first
-        if lines and len(lines[-1]) + 1 + len(piece) <= left:
+        if lines and len(lines[-1]) + 1 + len(piece) <= room.columns(len(lines) - 1):
             lines[-1] += " " + piece
         else:
             lines += fragment(piece, Room(room.later, room.later)) if piece != text else [piece]
@@ -201,17 +194,18 @@ def lines_of_term(bare: str, room: Room) -> List[str]:
     """Breaks a line of a .antt file, without its indentation."""
     if not is_balanced(bare):
         return fragment(bare, room)
-    equals = top_equals(bare)
     alone = Room(room.later, room.later)
-    if equals is not None and not bare.startswith("let "):
-        head, tail = bare[: equals + 2], bare[equals + 3 :]
-        return (broken(head, room) if len(head) > room.first else [head]) + broken(tail, alone)
-    words = words_of(bare)
-    if equals is None and ":" in words and "→" in words and not bare.startswith("let "):
-        colon = words.index(":") + 1
-        head, tail = " ".join(words[:colon]), " ".join(words[colon:])
-        if len(head) > room.first // 2:
-            return [head, *broken(tail, alone)]
+    if not bare.startswith("let "):
+        equals = top_equals(bare)
+        if equals is not None:
+            head, tail = bare[: equals + 2], bare[equals + 3 :]
+            return broken(head, room) + broken(tail, alone)
+        words = words_of(bare)
+        if ":" in words and "→" in words:
+            colon = words.index(":") + 1
+            head, tail = " ".join(words[:colon]), " ".join(words[colon:])
+            if len(head) > room.first // 2:
+                return [head, *broken(tail, alone)]
     return [
         part
         for line in broken(bare, room)
@@ -247,16 +241,10 @@ def break_clause(line: str) -> List[str]:
 def kept_by_edits() -> Dict[str, List[str]]:
     """Returns the texts that must-fail edits look for, by the files that they are in."""
     kept: Dict[str, List[str]] = {}
-    for edit in glob.glob("crates/*/must-fail/*.edit"):
-        path = ""
-        with open(edit, encoding="utf-8") as file:
-            for line in file:
-                key, _, said = line.partition(":")
-                if key == "file":
-                    path = f"{edit.split('/must-fail/')[0]}/{said.strip()}"
-                elif key == "old" or line.startswith("     "):
-                    text = (said if key == "old" else line).strip()
-                    kept.setdefault(path, []).extend([text] if text else [])
+    for edit in pathlib.Path(build.TOP).glob("crates/*/must-fail/*.edit"):
+        crate = edit.parent.parent.relative_to(build.TOP)
+        for path, old, _ in must_fail.changes(edit.read_text(encoding="utf-8")):
+            kept.setdefault(f"{crate}/{path}", []).append(old)
     return kept
 
 

@@ -45,6 +45,7 @@ import time
 from typing import Callable, Dict, Iterator, List, NamedTuple, Optional, Set, Tuple
 
 import build
+import must_fail
 import weaker_forms
 from stand_ins import ROOM, Crate, Room, proved, read
 from weaker_forms import Form, Function
@@ -395,11 +396,9 @@ def edits_of(crate: Crate) -> Iterator[Tuple[str, Set[Tuple[str, str]]]]:
     """Returns the must-fail edits of a crate of this checkout, with what each changes where."""
     folder = f"{build.TOP}/crates/{crate.name}/must-fail"
     for file in sorted(os.listdir(folder)) if os.path.isdir(folder) else []:
-        path, owners = "", set()
-        for line in read(f"{folder}/{file}").split("\n"):
-            word, _, rest = line.partition(": ")
-            path = rest if word == "file" else path
-            at = crate.texts.get(path, "").find(rest) if word == "old" else -1
+        owners = set()
+        for path, old, _ in must_fail.changes(read(f"{folder}/{file}")):
+            at = crate.texts.get(path, "").find(old)
             if at >= 0:
                 owners.add((path, owner_at(crate, path, at)))
         yield file[: -len(".edit")], owners

@@ -1,25 +1,22 @@
 """The must-fail edits of the crates: each must fit the source that it changes."""
+import sys
+
 from cases import TOOLS
 
 CRATES = TOOLS.parent / 'crates'
-HEADS = ('file: ', 'old: ', 'new: ')
+sys.path.insert(0, str(TOOLS.parent / 'scripts'))
+import must_fail   # noqa: E402
 
 
 def fits(edit):
-    lines = [line for line in edit.read_text(encoding='utf-8').splitlines() if line.startswith(HEADS)]
-    assert lines, 'it changes nothing'
-    source = None
-    for line in lines:
-        head, _, text = line.partition(': ')
-        if head == 'file':
-            source = (edit.parent.parent / text).read_text(encoding='utf-8')
-        elif head == 'old':
-            assert source is not None, 'it names no file'
-            assert source.count(text) == 1, f'its old text is in the file {source.count(text)} times: {text!r}'
-            old = text
-        else:
-            assert text != old, 'its new text is the old one'
-            source = source.replace(old, text)
+    changes = list(must_fail.changes(edit.read_text(encoding='utf-8')))
+    assert changes, 'it changes nothing'
+    sources = {}
+    for path, old, new in changes:
+        source = sources.get(path) or (edit.parent.parent / path).read_text(encoding='utf-8')
+        assert source.count(old) == 1, f'its old text is in the file {source.count(old)} times: {old!r}'
+        assert new != old, 'its new text is the old one'
+        sources[path] = source.replace(old, new)
 
 
 def check(_program):

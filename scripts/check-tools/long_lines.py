@@ -1,5 +1,4 @@
 """What scripts/break_lines.py makes of long lines, and that no source has a line that it would break."""
-import os
 import subprocess
 import sys
 
@@ -42,12 +41,10 @@ def lines_that_stay():
 
 def sources():
     names = subprocess.run(['git', 'ls-files', 'crates/*.antt', 'crates/*.rt'], cwd=TOP, check=True, capture_output=True, text=True).stdout.split()
-    os.chdir(TOP)
     kept = break_lines.kept_by_edits()
     found = []
     for name in names:
-        with open(name, encoding='utf-8') as file:
-            text = file.read()
+        text = (TOP / name).read_text(encoding='utf-8')
         if break_lines.broken_text(name, text, kept.get(name, [])) != text:
             found.append(name)
     assert not found, f'python3 scripts/break_lines.py {" ".join(found[:5])}, then rt fmt'
