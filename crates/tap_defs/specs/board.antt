@@ -1,5 +1,5 @@
--- The board around its chain: nets under faults, quiet texts, the scans of a board's test, the promise of the test, and the faults that
--- explain a log.
+-- The board around its chain: nets under faults, texts that are safe to apply, the scans of a board's test, the
+-- guarantee of the test, and the faults that explain a log.
 pub mod FaultSet
 pub mod NetBits
 pub mod OnBoard

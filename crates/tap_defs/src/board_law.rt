@@ -1,5 +1,5 @@
-//! Laws of the board around its chain, and of logs. Each law is the contract of a function that does nothing: a caller knows the law after
-//! calling the function.
+//! Laws of a board's test and of its logs. Each law is the contract of a function that does
+//! nothing. A caller knows the law after calling the function.
 ghost use Rattle.std.specs.Prelude.{◌≡◌, ◌↔◌, ℕ, ◌+◌, ◌^◌, ◌≤◌, Bool, false, List, map, Some, slice_get, ◌*◌, [], ◌∷◌, All, length, filter, count_by};
 ghost use Rattle.board_defs.specs.declared.board.Ctl.{Ctl};
 ghost use Rattle.board_defs.specs.declared.board.Net.{Net};
@@ -26,50 +26,56 @@ ghost use Rattle.tap_defs.specs.board.TestRows.{TestRow, quiet_row, CodesTell, I
 ghost use Rattle.board_defs.specs.declared.device.RawDevice.{RawDevice};
 ghost use Rattle.tap_defs.specs.board.SingleBits.{single_bit};
 
-/// If `2 ^ width` is at least `n + 2`, each code from 1 to `n` has a 0 bit and a 1 bit, and every two of these codes differ in some bit.
+/// Codes of `width` bits are enough for `n` nets if `2 ^ width` is at least `n + 2`. Then each code
+/// from 1 to `n` has a 0 bit and a 1 bit, and every two of these codes differ in some bit.
 pub fn codes_tell()
     ensures { (n width : ℕ) → n + 2 ≤ 2 ^ width → CodesTell n width }
 {}
 
-/// The code width of `n` codes is the smallest width that is enough for them.
+/// The code width of `n` codes is the smallest `w` for which `2 ^ w` is at least `n + 2`.
 pub fn code_widths()
     ensures { (n : ℕ) → IsCodeWidth n (code_width n) }
 {}
 
-/// The nets that have codes are those that some pass observes. If the passes meet the requirements on passes, these are the covered nets.
+/// Passes that meet the requirements on passes (`ArePasses`) observe exactly the covered nets. So
+/// these are the nets that have codes.
 pub fn codes_number_covered()
     ensures { (board : RawBoard) → IsBoard board → (passes : List (List Ctl))
         → ArePasses board passes → (n : ℕ) (net : Net) → slice_get board.nets n ≡ Some net
         → is_observed board passes net ≡ is_covered board net }
 {}
 
-/// A test has three scans, and then, for each pass, one scan for each row and one for the quiet row.
+/// A test begins with three scans: the preload codes, the quiet row and the EXTEST codes. Each pass
+/// then has one scan for each row, and a last scan that shifts in the quiet row.
 pub fn scans_placed()
     ensures { (board : RawBoard) (passes : List (List Ctl)) (width : ℕ)
         → AreTestScans board passes width (test_scans board passes width) }
 {}
 
-/// If every pass is safe, the text of the passes passes on the board without faults, and is quiet under every fault set.
+/// If every pass is safe, the SVF text of the passes passes on the board without faults, and is
+/// quiet under every fault set. A quiet text (`IsQuiet`) is safe to apply: drivers never conflict,
+/// and unused cells keep their safe values.
 pub fn passes_harmless()
     ensures { (board : RawBoard) (passes : List (List Ctl)) (width : ℕ) → IsBoard board
         → ((x : ℕ) (pass : List Ctl) → slice_get passes x ≡ Some pass → IsSafe board (holds pass))
         → IsHarmless board (pass_text board passes width) }
 {}
 
-/// The text of passes is a test of the board if two conditions are met. The passes must meet the requirements on passes, and the codes must
-/// have enough bits for the observed nets.
+/// The SVF text of passes is a test of the board if the passes meet the requirements on passes
+/// (`ArePasses`) and the codes have enough bits for the observed nets.
 pub fn boards_tested()
     ensures { (board : RawBoard) (passes : List (List Ctl)) (width : ℕ) → IsBoard board
         → ArePasses board passes → observed_count board passes + 2 ≤ 2 ^ width
         → IsBoardTest board (pass_text board passes width) }
 {}
 
-/// The text of the board's own passes is a test of the board.
+/// The SVF text of the passes that `passes_of` gives for a board is a test of the board.
 pub fn board_texts_test()
     ensures { (board : RawBoard) → IsBoard board → IsBoardTest board (board_text board) }
 {}
 
-/// The text of a walk with a safe setting passes on the board without faults, and is quiet under every fault set.
+/// The SVF text of a walking test with a safe setting passes on the board without faults, and is
+/// quiet under every fault set.
 pub fn walks_harmless()
     ensures { (board : RawBoard) (walk : List Ctl) → IsBoard board → IsSafe board (holds walk)
         → IsHarmless board (walk_text board walk) }
@@ -83,9 +89,9 @@ pub fn singles_observable()
     ensures no_open_shorted { (single : Single) → NoOpenShorted (set_of single) }
 {}
 
-/// Clocks that scan the rows of a test and compare the bits at TDO with a log pass on the faulty board if and only if the
-/// log has the bits that the cells capture. For each scan, the cells capture while the row of the scan before is in the
-/// latches.
+/// A test whose expected bits come from a log passes on the faulty board if and only if each of its
+/// data scans passes with the bits that the cells capture. The cells capture while the row of the
+/// previous scan is in the latches.
 pub fn logs_captured()
     ensures { (board : RawBoard) (faults : FaultSet) (scans : List RowScan) (log : List (List Bool))
         → IsBoard board
@@ -94,7 +100,9 @@ pub fn logs_captured()
         (scans_by_log (map (scan_of_row board) scans) log) }
 {}
 
-/// If no open pin is on a shorted net, a row has one response: each compared bit is the same whatever the free bits are.
+/// If no open pin is on a shorted net and the setting of the row is safe, each compared cell
+/// captures the same bit whatever the free bits are. Free bits are those that the standard and the
+/// device descriptions leave open.
 pub fn one_response()
     ensures { (board : RawBoard) (faults : FaultSet) (scan : RowScan) → IsBoard board
         → IsFaultSet board faults → NoOpenShorted faults → IsSafe board scan.before.setting
@@ -104,15 +112,17 @@ pub fn one_response()
         (row_captured board faults scan.before other) }
 {}
 
-/// While a row with a safe setting is in the latches, each unguarded net is driven by its enabled driver, with the bit of the driver's
-/// cell. A switching driver whose cell has the disable value drives nothing.
+/// While a row with a safe setting is in the latches, the enabled driver of an unguarded net drives
+/// the net to the bit of the driver's cell. A net without an enabled driver is undriven. A driver
+/// that its own cell controls drives nothing if the cell has the disable value.
 pub fn rows_drive()
     ensures { (board : RawBoard) (row : TestRow) (n : ℕ) (net : Net) → IsBoard board
         → IsSafe board row.setting → slice_get board.nets n ≡ Some net → guarded board net ≡ false
         → feeding board (row_states board row) net ≡ row_feeding board row net }
 {}
 
-/// The compared SDR statements of a test are those of its compared data scans after the EXTEST codes, in order.
+/// The SDR statements of a test that compare some bit are the statements of its compared data
+/// scans, in order. There are equally many of both.
 pub fn statements_compared()
     ensures statements { (board : RawBoard) (scans : List RowScan)
         → filter is_compared (board_scans board scans)
@@ -121,8 +131,10 @@ pub fn statements_compared()
         → count_by is_compared (board_scans board scans) ≡ length (compared_scans board scans) }
 {}
 
-/// The compared scans of a test are those of the rows of its passes, each once and in order. A pass that observes no net compares nothing.
-/// Each pass of a board observes some net.
+/// The compared scans of a test are those that compare the rows of its passes, each row once and in
+/// order. A pass that observes no net compares nothing. Each pass observes some net if the passes
+/// meet the requirements on passes (`ArePasses`). A log then has a row for each row of each pass. A
+/// walking test compares each of its rows once and in order.
 pub fn rows_compared()
     ensures passes { (board : RawBoard) (passes : List (List Ctl)) (width : ℕ) → IsBoard board
         → ArePasses board passes
@@ -140,9 +152,10 @@ pub fn rows_compared()
         (compared_scans board (walk_row_scans board walk)) }
 {}
 
-/// If every compared bit of a log is the expected one, the faults that explain the log are those under which the text of the test passes.
-/// The reason is that the bits which SIR statements shift out depend only on the chain. So no nonempty observable fault set explains such a
-/// log.
+/// If every compared bit of a log is the expected one, the faults that explain the log are those
+/// under which the test passes. So no nonempty observable fault set explains such a log. A log has
+/// no bits of the SIR statements, but they pass under any faults, because their bits depend only on
+/// the chain.
 pub fn expected_logs()
     ensures passing { (board : RawBoard) (faults : FaultSet) (scans : List RowScan)
         (log : List (List Bool)) → IsBoard board → IsExpected board scans log
@@ -160,8 +173,9 @@ pub fn expected_logs()
         → ExplainedBy board faults (svf_row_scans board) log → ⊥ }
 {}
 
-/// In the test of safe passes, in a board's own test and in a walk with a safe setting, each scan compares the row that is in the latches.
-/// The setting of a compared row is safe.
+/// Each scan compares the row that is in the latches, and the setting of every compared row is
+/// safe. This is so in a test of safe passes, in the test that is generated for a board, and in a
+/// walking test with a safe setting.
 pub fn scans_in_turn()
     ensures passes { (board : RawBoard) (passes : List (List Ctl)) (width : ℕ)
         → ((x : ℕ) (pass : List Ctl) → slice_get passes x ≡ Some pass → IsSafe board (holds pass))
@@ -171,8 +185,10 @@ pub fn scans_in_turn()
         → AreInTurn board (walk_row_scans board walk) }
 {}
 
-/// Faults explain a log if and only if the log has the shape of the test and each row has the bits that the cells capture under these
-/// faults, wherever its scan compares. The cells capture while the row of the scan before is in the latches.
+/// If each scan compares the row that is in the latches (`AreInTurn`), faults explain a log if and
+/// only if two conditions are met. The log has the shape of the test. Each compared bit in it is
+/// the bit that the cell captures under these faults, while the row of the previous scan is in the
+/// latches.
 pub fn logs_by_rows()
     ensures { (board : RawBoard) (faults : FaultSet) (scans : List RowScan) (log : List (List Bool))
         → IsBoard board → AreInTurn board scans
@@ -180,8 +196,9 @@ pub fn logs_by_rows()
         ↔ (HasShape board scans log × IsCapturedBy board faults scans log) }
 {}
 
-/// If no open pin is on a shorted net, the faults explain some log of a test, and any two logs that they explain agree wherever bits are
-/// compared. So a single fault determines every compared bit of its logs.
+/// If no open pin is on a shorted net, the faults explain some log of the test. Any two logs that
+/// the same faults explain have the same compared bits. So a single fault determines every compared
+/// bit of its logs.
 pub fn one_log()
     ensures some { (board : RawBoard) (faults : FaultSet) (scans : List RowScan) → IsBoard board
         → IsFaultSet board faults → NoOpenShorted faults → AreInTurn board scans
@@ -195,8 +212,8 @@ pub fn one_log()
         → (log : List (List Bool)) × ExplainedBy board (set_of single) scans log }
 {}
 
-/// A single fault of a board explains a log if and only if the log has the shape of the test and each compared cell has the bit that the
-/// fault gives it.
+/// A single fault of a board explains a log if and only if the log has the shape of the test and
+/// each compared cell has the bit that `single_bit` gives for the fault.
 pub fn singles_respond()
     ensures bits { (board : RawBoard) (single : Single) (scans : List RowScan)
         (log : List (List Bool)) → IsBoard board → IsSingle board single → AreInTurn board scans

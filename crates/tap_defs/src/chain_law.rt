@@ -1,4 +1,5 @@
-//! Laws of the chain. Each law is the contract of a function that does nothing: a caller knows the law after calling the function.
+//! Laws of the scan chain and of SVF text. Each law is the contract of a function that does
+//! nothing. A caller knows the law after calling the function.
 ghost use Rattle.std.specs.Prelude.{◌≡◌, ℕ, ◌≤◌, List, sum, Some};
 ghost use Rattle.board_defs.specs.Limits.{most_bits};
 ghost use Rattle.tap_defs.specs.chain.ChainScans.{chain_text};
@@ -9,29 +10,33 @@ ghost use Rattle.tap_defs.specs.chain.Svf.{meaning};
 ghost use Rattle.tap_defs.specs.chain.Text.{svf_text, AllSized};
 ghost use Rattle.tap_defs.specs.chain.Transport.{DataTransport, LongDataTransport, CodeTransport, LongCodeTransport};
 
-/// The captured bits of a data scan come out in order, and the chain then holds the bits that were shifted in (IEEE 1149.1-1990,
-/// section 8). This is so whatever the pins capture.
+/// A data scan outputs the captured bits in order, and the chain then holds the bits that were
+/// shifted in (IEEE 1149.1-1990, section 8). This is so whatever the pins capture.
 pub fn data_scans()
     ensures transport { DataTransport }
     ensures any_length { LongDataTransport }
 {}
 
-/// The captured bits of an instruction scan come out in order, and each part then has the instruction of the code that was shifted
-/// into it (IEEE 1149.1-1990, section 6). This is so under any current instructions.
+/// An instruction scan outputs the captured bits in order, and each part then has the instruction
+/// of the code that was shifted into it (IEEE 1149.1-1990, section 6). This is so whatever the
+/// current instructions are.
 pub fn code_scans()
     ensures transport { CodeTransport }
     ensures any_length { LongCodeTransport }
 {}
 
-/// The text of a head, any scans and a tail means the clocks of these parts. Exactly the bits that the scans compare are compared
-/// (SVF Revision E).
+/// The SVF text of scans means the clocks of the head, of the scans and of the tail. These clocks
+/// compare exactly the bits that the scans compare (SVF Revision E). Each scan must have at least
+/// one and fewer than `2 ^ 64` bits.
 pub fn texts_mean()
     ensures { (scans : List Scan) → AllSized scans
         → meaning (svf_text scans) ≡ Some (test_clocks scans) }
 {}
 
-/// The chain test passes on every chain of parts with these instruction lengths. It fails on every chain with another number of
-/// parts whose instruction registers have no more bits in total.
+/// The chain test passes on every chain of parts with these instruction lengths. It fails on every
+/// chain that has another number of parts and no more instruction-register bits in total. There
+/// must be at least one length, each length must be at least 2, and their sum must be at most
+/// `most_bits`.
 pub fn chain_tests()
     ensures { (lengths : List ℕ) → AreIrLengths lengths → sum lengths ≤ most_bits
         → IsChainTest lengths (chain_text lengths) }

@@ -11,8 +11,8 @@ pub struct Shape {
     pub compare: bool,
 }
 
-/// The three rows of a scan, stored: the bits that are shifted in, the bits that are expected at TDO, and the mask of
-/// the bits that are compared.
+/// The three rows of a scan, in memory of their own: the bits that are shifted in, the bits that
+/// are expected at TDO, and the mask of the bits that are compared.
 #[derive(Drop)]
 pub struct StoredRows {
     pub tdi: Row,
@@ -29,7 +29,7 @@ pub struct ScanRows<'a> {
 }
 
 impl ScanRows<'_> {
-    /// Replaces the bits of each row by those of its stored counterpart. There must be room for them.
+    /// Copies each stored row into its counterpart. Each row must have room for the bits.
     pub fn copy_from(&mut self, stored: &StoredRows)
         requires { HaveRoomFor stored.now self.old }
         ensures tdi { self.new.tdi.now.bits ≡ stored.now.tdi.bits }

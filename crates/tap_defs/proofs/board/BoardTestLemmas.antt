@@ -1,4 +1,4 @@
--- The text of a board's passes is a test of the board.
+-- Proof that the SVF text of a board's passes is a test of the board.
 use Rattle.std.specs.Prelude.{slice_get, count_by}
 use Rattle.std.proofs.Common.{◌+◌, ◌∷◌, [], ◌<◌, ◌*◌, suc, ◌≤◌, ◌^◌, ℕ, Bool, List, length-append, length, arith, map, Some, ◌≡◌, ◌∙◌, zero, refl, subst, sym}
 use Rattle.board_defs.specs.declared.board.Part.{Part}
@@ -136,7 +136,6 @@ walk_harmless board walk rules safe =
     only zero p e = let z : walk ≡ p = cc e in subst (λ (q : List Ctl). IsSafe board (holds q)) z safe
     only (suc x) p e = cc e
 
--- if each pass is safe, the text of the passes is harmless, whatever the width of the codes
 pub passes_harmless : (board : RawBoard) (passes : List (List Ctl)) (width : ℕ) → IsBoard board →
     ((x : ℕ) (pass : List Ctl) → slice_get passes x ≡ Some pass → IsSafe board (holds pass)) →
     IsHarmless board (pass_text board passes width)
@@ -144,7 +143,6 @@ passes_harmless board passes width rules safe =
     is_harmless board (code_row board passes) width passes rules safe (λ p j c. refl)
     (λ x p e j. safe x p e)
 
--- the text of the board's own passes is a test of the board
 pub board_tested : (board : RawBoard) → IsBoard board → IsBoardTest board (board_text board)
 board_tested board rules =
     is_test board (passes_of board) (code_width (observed_count board (passes_of board))) rules

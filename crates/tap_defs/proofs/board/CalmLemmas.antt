@@ -1,4 +1,5 @@
--- If every pass is safe, the text of the passes keeps the board quiet.
+-- Proof that the text of safe passes keeps the board quiet: drivers never conflict, and unused cells keep their safe
+-- values.
 use Rattle.std.specs.Prelude.{option_map, slice_get}
 use Rattle.std.proofs.Common.{◌≡◌, false, ◌<◌, List, suc, ◌∷◌, ◌∙◌, ◌++◌, true, Some, None, Bool, zero, [], ℕ, Option, ◌&&◌, refl, length, arith, cond, append_assoc, subst, sym, ap, map, inl, take, drop}
 use Rattle.board_defs.specs.declared.board.Net.{Net}
@@ -98,7 +99,7 @@ moment_off board setting s off =
           (both_ways (live board s p) (off_live board s off p) on);
     }
 
--- the big setting contains every control of the small one
+-- every control in the setting `small` is also in the setting `big`
 abbrev pub Within : Enabling → Enabling → Type 0
 Within small big = (c : Ctl) → small c ≡ true → big c ≡ true
 
@@ -134,7 +135,7 @@ moments_apart : (board : RawBoard) (setting : Enabling) → IsSafe board setting
     Moment board setting next → IsUncontested board now next
 moments_apart board setting safe now next f g = uncontested board setting safe now next f.within g.within
 
--- the setting without controls, which is safe
+-- the setting without controls
 abbrev pub nothing : Enabling
 nothing c = false
 
@@ -162,7 +163,8 @@ nothing_safe board rule = record {
     always_on : (net : Net) (p : NetPin) → enables board nothing p ≡ true → drive board net p ≡ Some AlwaysOn
     always_on net p h = by_at net p.at h
 
--- if the board stays quiet after these clocks, it stays quiet during them, too
+-- If the board stays quiet during `rest` after these clocks, it stays quiet during the clocks and `rest`. Statements of
+-- this form can be joined for clocks that follow each other.
 abbrev pub StaysBy : RawBoard → Wiring → List Clock → Choices → List ChainPart → Type 0
 StaysBy board wiring cs free chain =
     (rest : List (List PinState)) → StaysQuiet board (pin_states (run wiring cs free chain)) rest
@@ -211,7 +213,8 @@ switch_then board setting safe moments chain next s m k rest h =
       (k.quiet_moment, moments_apart board setting safe a a k k, h),
     ))
 
--- if the moments before and after a clock are quiet under one safe setting, the board stays quiet during the clock
+-- A clock keeps the board quiet if the moments before and after it are quiet, and only drivers that one safe setting
+-- enables are live at both moments.
 step_then : (board : RawBoard) (setting : Enabling) → IsSafe board setting →
     (wiring : Wiring) (c : Clock) (free : Choices) (chain : List ChainPart) → Moment board setting (pin_states chain) →
     Moment board setting (pin_states (clock_after wiring c (free 0) chain)) → StaysBy board wiring (c ∷ []) free chain
@@ -276,7 +279,7 @@ preload_off (p ∷ ps) (n ∷ chain) e =
     one (Described device) = refl
     one (WithoutDescription m) = refl
 
--- during these clocks the board stays quiet, and after them the quiet row is in the latches
+-- the board stays quiet during `clocks`, and the quiet row is in the latches after them
 pub record Stayed (board : RawBoard) (wiring : Wiring) (clocks : List Clock) (free : Choices) (chain : List ChainPart) : Type 0 where
   pub stays : StaysBy board wiring clocks free chain
   pub last : TestRow
@@ -373,7 +376,6 @@ module _ (board : RawBoard) (rules : IsBoard board) (faults : FaultSet) where
       (stay_scans (setting p) (safe 0 p refl) (rows p) (within p) width 0 quiet_row before (nothing_within (setting p)) free chain h)
       (λ f m b k. stay_passes setting rows width ps (λ x. safe (suc x)) within b f m k)
 
-  -- if the quiet row is in the latches, the board stays quiet during the tail
   tail_stays : (before : TestRow) (free : Choices) (chain : List ChainPart) → IsBoardChain board chain →
       InTest board (shifted_row board (record { now = quiet_row; before = before })) chain → StaysBy board around reset_clocks free chain
   unfolding run shown
@@ -433,7 +435,7 @@ module _ (board : RawBoard) (rules : IsBoard board) (faults : FaultSet) where
       (sym (run_logics around four free states ∙ start.logics_are)) (logics_off board.chain) in
       chain_off n4 (bits_at_pins around (f 0) n4) (f 0).parts true (f 0).tdi (run_resets around free states) off
 
-  -- if every pass is safe, the board stays quiet from the fifth clock of the text to its end
+  -- From the fifth clock of the text to its end, the board stays quiet if every pass is safe.
   whole_stays : (setting : List Ctl → Enabling) (rows : List Ctl → ℕ → TestRow) (width : ℕ) (ps : List (List Ctl)) →
       ((x : ℕ) (p : List Ctl) → slice_get ps x ≡ Some p → IsSafe board (setting p)) →
       ((p : List Ctl) (j : ℕ) → Within (rows p j).setting (setting p)) → (states : List ChainPart) (free : Choices) →
@@ -529,7 +531,6 @@ module _ (board : RawBoard) (rules : IsBoard board) (faults : FaultSet) where
             (whole [] tt),
       )
 
-  -- if every pass is safe, the text of the passes is quiet
   pub whole_quiet : (setting : List Ctl → Enabling) (rows : List Ctl → ℕ → TestRow) (width : ℕ) (ps : List (List Ctl)) →
       ((x : ℕ) (p : List Ctl) → slice_get ps x ≡ Some p → IsSafe board (setting p)) →
       ((p : List Ctl) (j : ℕ) → Within (rows p j).setting (setting p)) → (states : List ChainPart) (free : Choices) →

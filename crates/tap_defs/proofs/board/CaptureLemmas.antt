@@ -1,4 +1,4 @@
--- The rows, the faults and the free bits determine what data scans capture on a board.
+-- What a data scan captures on a board depends only on the row in the latches, the faults and the free bits.
 use Rattle.std.proofs.Common.{◌≡◌, ◌↔◌, ℕ, suc, ◌<◌, Bool, true, false, cond, ◌&&◌, ◌||◌, List, [], ◌∷◌, ◌++◌, length, map, replicate, Option, Some, None, refl, sym, ◌∙◌, ap, subst, arith, append_assoc}
 use Rattle.std.specs.Prelude.{is_some}
 use Rattle.std.proofs.lemmas.Bool.{and_parts, and_from}
@@ -32,7 +32,6 @@ use Rattle.tap_defs.proofs.board.RowScanLemmas.{row_scan_by}
 use Rattle.tap_defs.proofs.board.EntryLemmas.{stays_of, row_scan_some, AllSilent, quiet_silent, entered, f3, scan2, in_test_after}
 use Rattle.tap_defs.proofs.chain.HeadLemmas.{scans_decide}
 
--- if a part is under test and its latches hold its bits of the row, its visible state is the one that the row gives
 part_shows : (board : RawBoard) (t : RowScan) (k : ℕ) (kind : PartKind) (logic : TestLogic) (s : PartState) → logic ≡ test_logic kind →
     IsStateOf logic s →
     s.current ≡ in_test kind → held_bits s ≡ tdi_bits (part_bits board t k kind)
@@ -70,12 +69,11 @@ parts_show board t k (p ∷ ps) (n ∷ chain) l h c e =
     let e1 : all_held chain ≡ map tdi_bits (bits_by_part board t (suc k) ps) = cc e in
     cons_path (part_shows board t k p.kind n.logic n.state l0 h.0 c0 e0) (parts_show board t (suc k) ps chain l1 h.1 c1 e1)
 
--- while the row is in the latches, the visible states of the parts are those of the row
 pub row_shown : (board : RawBoard) (t : RowScan) (chain : List ChainPart) → IsBoardChain board chain →
     InTest board (shifted_row board t) chain → pin_states chain ≡ row_states board t.now
 row_shown board t chain start h = parts_show board t 0 board.chain chain h.logics_are start.states_are h.currents h.stays
 
--- the scans are data scans that shift these rows in, whatever they compare
+-- `scans` are data scans that shift in these rows; they may compare anything
 abbrev pub ShiftRows : RawBoard → List RowScan → List Scan → Type 0
 ShiftRows board [] [] = Unit {0}
 ShiftRows board [] (s ∷ scans) = ⊥
@@ -99,7 +97,8 @@ module _ (board : RawBoard) (rules : IsBoard board) (faults : FaultSet) where
   abbrev Held : TestRow → TestRow → List ChainPart → Type 0
   Held row before chain = IsBoardChain board chain × InTest board (shifted_row board (record { now = row; before = before })) chain
 
-  -- the result of one scan: it compares its bits with those that the board captures for the row, and then its own row is in the latches
+  -- The effect of one scan. It passes if its bits agree with the bits that the board captures for `row`. Afterwards the
+  -- scan's own row is in the latches.
   record Scanned (t : RowScan) (row : TestRow) (scan : Scan) (free : Choices) (chain : List ChainPart) : Type 0 where
     compares : run_passes (scan_clocks scan) (tdos around (scan_clocks scan) free chain)
         ≡ scan_passes scan.bits (row_captured board faults row (free 2))
@@ -128,7 +127,6 @@ module _ (board : RawBoard) (rules : IsBoard board) (faults : FaultSet) where
             held = (stays_of board rules faults (sdr_clocks scan.bits) free chain h.0, d.in_test);
           }
 
-  -- if the scans pass with the bits that the board captures for their rows, a run of the scans passes
   pub run_follows : (ts : List RowScan) (scans : List Scan) (row before : TestRow) (free : Choices) (chain : List ChainPart) →
       Held row before chain → ShiftRows board ts scans →
       CapturesPass board faults row ts scans → run_passes (all_clocks scans) (tdos around (all_clocks scans) free chain) ≡ true
@@ -146,7 +144,7 @@ module _ (board : RawBoard) (rules : IsBoard board) (faults : FaultSet) where
       (e.compares ∙ ok.0 (free 2))
       (run_follows ts scans t.now t.before (choices_after first free) next e.held shifts.2 ok.1)
 
-  -- the choices in which every cycle has the same choice
+  -- the choices of a run in which every cycle has this choice
   abbrev always : Choice → Choices
   always choice = λ k. choice
 
@@ -154,7 +152,7 @@ module _ (board : RawBoard) (rules : IsBoard board) (faults : FaultSet) where
   always_after choice [] = refl
   always_after choice (c ∷ cs) = always_after choice cs
 
-  -- like `CapturesPass`, but for this choice of the free bits
+  -- like `CapturesPass`, but for only one choice of the free bits
   abbrev pub CapturesPassBy : Choice → TestRow → List RowScan → List Scan → Type 0
   CapturesPassBy choice row [] scans = Unit {0}
   CapturesPassBy choice row (t ∷ ts) [] = Unit {0}
@@ -338,7 +336,7 @@ tdi_bits-bits_by_log [] row = refl
 tdi_bits-bits_by_log (b ∷ bits) [] = tdi_bits-uncompared (b ∷ bits)
 tdi_bits-bits_by_log (b ∷ bits) (r ∷ row) = cons_path refl (tdi_bits-bits_by_log bits row)
 
--- a statement that is an SIR or compares nothing takes no row of the log
+-- an SIR statement, or a statement that compares nothing, uses no row of the log
 skipped : (s : Scan) (scans : List Scan) (log : List (List Bool)) → is_compared s ≡ false →
     scans_by_log (s ∷ scans) log ≡ record { ir = s.ir; bits = uncompared s.bits } ∷ scans_by_log scans log
 skipped s scans [] e = refl
@@ -348,7 +346,7 @@ skipped s scans (row ∷ log) e =
     (record { ir = s.ir; bits = bits_by_log s.bits row } ∷ scans_by_log scans log)
     (record { ir = s.ir; bits = uncompared s.bits } ∷ scans_by_log scans (row ∷ log))) e
 
--- with a log in place of the expected bits, the scans shift in the same rows
+-- the scans shift in the same rows if their expected bits come from a log
 log_shifts : (board : RawBoard) (ts : List RowScan) (log : List (List Bool)) →
     ShiftRows board ts (scans_by_log (map (scan_of_row board) ts) log)
 log_shifts board [] log = tt
@@ -402,8 +400,8 @@ some_start board = record { logics_are = same (board_logics board); states_are =
       states parts,
     )
 
--- The head of a test and its first three scans. With a log in place of the expected bits, these scans compare nothing, and
--- the parts still have EXTEST after them.
+-- The head of a test and its first three scans. If the expected bits come from a log, these scans compare nothing.
+-- After them, the parts have EXTEST.
 module _ (board : RawBoard) (rules : IsBoard board) (faults : FaultSet) (ts : List RowScan) (log : List (List Bool)) where
   abbrev env : Wiring
   env = board_wiring board faults
@@ -485,7 +483,7 @@ module _ (board : RawBoard) (rules : IsBoard board) (faults : FaultSet) (ts : Li
         ∙ after-append (sir_clocks preload) (sdr_clocks quiet ++ sir_clocks extest) f
         ∙ after-append (sdr_clocks quiet) (sir_clocks extest) (choices_after (sir_clocks preload) f)
 
-    -- whether a run agrees with the log depends only on the scans of the rows
+    -- Whether a run agrees with the log depends only on the data scans after the EXTEST codes.
     pub log_decides : run_passes (test_clocks (scans_by_log (board_scans board ts) log))
         (tdos env (test_clocks (scans_by_log (board_scans board ts) log)) free chain)
         ≡ run_passes (all_clocks compared) (tdos env (all_clocks compared) left under_extest)
@@ -549,7 +547,6 @@ module _ (board : RawBoard) (rules : IsBoard board) (faults : FaultSet) (ts : Li
           (λ (g : Choices). run_passes (all_clocks compared)
           (tdos env (all_clocks compared) g (under_extest chain free start))) ends) ∙ run_ok)
 
-  -- the scans of a log pass in every run if and only if they pass with the bits that the board captures for the rows
   pub log_captured : PassOnBoard board faults
       (test_clocks (scans_by_log (board_scans board ts) log))
       ↔ CapturesPass board faults quiet_row ts compared

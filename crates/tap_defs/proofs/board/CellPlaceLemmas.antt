@@ -1,4 +1,5 @@
--- The positions of cells in a data scan. If rows of bits agree wherever a scan compares, the bits of each compared cell agree.
+-- The position of each cell in a data scan. Two rows of bits agree wherever a scan compares if and only if they agree
+-- at each compared cell.
 use Rattle.std.proofs.Common.{◌≡◌, ℕ, zero, suc, ◌+◌, ◌<◌, ◌≤◌, ◌-◌, Bool, true, false, cond, List, [], ◌∷◌, length, drop, Option, Some, None, refl, sym, ◌∙◌, ap, subst, arith, length-append, ltb-true, ltb-false}
 use Rattle.std.specs.Prelude.{slice_get, nat_lt, option_map, option_and_then, unwrap_or}
 use Rattle.std.specs.List.{sum_by}
@@ -33,8 +34,8 @@ filled_inv zero g j a e = cc e
 filled_inv (suc n) g zero a e = (omega arith, cc e)
 filled_inv (suc n) g (suc j) a e = let r = filled_inv n (λ k. g (suc k)) j a e in (omega (arith, r.0), r.1)
 
--- a value for each cell of a described part, and one value for any other part; the values of all parts are joined in the
--- order of a data scan
+-- Values in the order of a data scan: `f` gives the value of each boundary cell of a described part, and `z` is the
+-- value of any other part.
 module _ {A : Type 0} (f : ℕ → RawDevice → ℕ → A) (z : A) where
   abbrev pub part_laid : ℕ → PartKind → List A
   part_laid k (Described device) = filled device.boundary (λ cell. f k device cell)
@@ -77,7 +78,7 @@ module _ {A : Type 0} (f : ℕ → RawDevice → ℕ → A) (z : A) where
       (slice_get_within (joined (laid (suc k) ps)) at (f (suc k + n) device cell) ih)
       ∙ ih ∙ ap (λ (m : ℕ). Some (f m device cell)) moved
 
-  -- the owner of the value at position `i` of the joined values: a cell of a described part, or another part
+  -- What position `i` belongs to: a cell of a described part, or a part without a description.
   pub data Site (k : ℕ) (ps : List Part) (i : ℕ) (a : A) : Type 0 where
     cell_site : (n : ℕ) (p : Part) (device : RawDevice) (cell : ℕ) → slice_get ps n ≡ Some p
         → p.kind ≡ Described device → cell < device.boundary →
@@ -117,7 +118,7 @@ module _ {A : Type 0} (f : ℕ → RawDevice → ℕ → A) (z : A) where
           let at : i ≡ length (joined (laid (suc k) ps)) + j = omega (arith, le) in
           by_kind j at q.kind refl (sym (rest_at (joined (laid (suc k) ps)) (part_laid k q.kind) j i at) ∙ e)
 
--- the scan bit of a cell; the bits of a data scan are those of the cells of its parts
+-- the scan bit of a cell
 abbrev pub scan_cell : RawBoard → RowScan → ℕ → RawDevice → ℕ → ScanBit
 scan_cell board t part device cell =
     record {
@@ -138,7 +139,7 @@ bits_laid board t k (p ∷ ps) = cons_path (one p.kind) (bits_laid board t (suc 
     one (Described device) = refl
     one (WithoutDescription n) = refl
 
--- the bit that a cell captures in these visible states; the bits that a data scan captures are those of the cells of its parts
+-- the bit that a cell captures in these visible states
 abbrev pub captured_cell : RawBoard → FaultSet → List PinState → Choice → ℕ → RawDevice → ℕ → Bool
 captured_cell board faults states choice part device cell =
     read_entry board faults states choice.shorts ((choice.parts part).cells cell) part
@@ -189,7 +190,6 @@ captured_laid board faults row choice =
         q.kind) o) [])) e
         ∙ by_kind j p.kind
 
--- if two rows agree wherever a scan compares, their bits at each position agree if that position is compared
 pub agree_at : (bits : List ScanBit) (xs ys : List Bool) (i : ℕ) (b : ScanBit) (x y : Bool) → AgreeWhereCompared bits xs ys →
     slice_get bits i ≡ Some b → slice_get xs i ≡ Some x → slice_get ys i ≡ Some y → AgreeAt b.expect x y
 agree_at [] xs ys i b x y h eb ex ey = cc eb
@@ -212,7 +212,7 @@ agree_from (a ∷ bits) [] ys h = tt
 agree_from (a ∷ bits) (u ∷ xs) [] h = tt
 agree_from (a ∷ bits) (u ∷ xs) (v ∷ ys) h = (h 0 a u v refl refl refl, agree_from bits xs ys (λ i. h (suc i)))
 
--- if a cell is compared, it reads a pin that is on a net
+-- A compared cell reads a pin that is on a net.
 module _ (board : RawBoard) (row : TestRow) (part : ℕ) where
   place_by_bit : (o : Option ℕ) (v : Bool) → expect_pin board row part o ≡ Some v →
       (p : Place) × (option_and_then (λ b. place_of (record { part = part; bit = b }) 0 board.nets) o ≡ Some p)
@@ -246,7 +246,8 @@ module _ (board : RawBoard) (row : TestRow) (part : ℕ) where
       → (p : Place) × (read_place board part device cell ≡ Some p)
   place_is device cell v e = place_by_entry (reading_entry device cell) v e
 
--- a row agrees with the given bits of the cells wherever the scan compares if and only if it has the given bit of each compared cell
+-- The row `logged` agrees with the bits `f` of the cells wherever the scan compares if and only if it has the bit `f`
+-- of each compared cell.
 module _ (board : RawBoard) (t : RowScan) (f : ℕ → RawDevice → ℕ → Bool) (logged : List Bool) where
   abbrev bits : List ScanBit
   bits = joined (row_bits board t)

@@ -1,4 +1,4 @@
--- Each code from 1 to `2 ^ w - 2` has a 0 bit and a 1 bit, and two different codes differ in some bit.
+-- Each code from 1 to `2 ^ w - 2` has a 0 bit and a 1 bit, and two different codes below `2 ^ w` differ in some bit.
 use Rattle.std.proofs.Common.{◌≡◌, ◌≢◌, ℕ, zero, suc, ◌+◌, ◌/◌, ◌%◌, ◌^◌, ◌<◌, ◌≤◌, ◌==◌, Bool, true, false, cond, not, List, [], ◌∷◌, take, Some, refl, sym, ◌∙◌, ap, arith}
 use Rattle.std.specs.Prelude.{slice_get, count_by}
 use Rattle.std.proofs.lemmas.Nat.Bits.{bit_at-suc, bit_at_lowest}
@@ -18,14 +18,13 @@ is_one r e = grind arith
 is_zero : (r : ℕ) → r ≡ 0 → (r == 1) ≡ false
 is_zero r e = grind arith
 
--- some bit of the code has this value
+-- one of the lowest `w` bits of the code `c` has the value `v`
 abbrev HasBit : ℕ → ℕ → Bool → Type 0
 HasBit c w v = (j : ℕ) × (j < w) × (code_bit c j ≡ v)
 
 shifted : (c w : ℕ) (v : Bool) → HasBit (c / 2) w v → HasBit c (suc w) v
 shifted c w v h = (suc h.0, omega (arith, h.1), later_bit c h.0 ∙ h.2)
 
--- if a code fits into `w + 1` bits, half of it fits into `w` bits
 half_below : (c w : ℕ) → c < 2 ^ suc w → c / 2 < 2 ^ w
 half_below c w h = omega (arith, pow-suc 2 w, h)
 
@@ -49,7 +48,7 @@ has_zero (suc w) c fits = by_parity (c % 2) refl (λ odd. shifted c w false (has
     by_parity (suc zero) e ih = ih e
     by_parity (suc (suc r)) e ih = absurd (omega (arith, e))
 
--- the codes differ in some bit
+-- the codes `c` and `d` differ in some of their lowest `w` bits
 abbrev Differ : ℕ → ℕ → ℕ → Type 0
 Differ c d w = (j : ℕ) × (j < w) × (code_bit c j ≡ not (code_bit d j))
 
@@ -70,7 +69,6 @@ codes_differ (suc w) c d fc fd ne =
     by_parity zero (suc (suc s)) e f ih = absurd (omega (arith, f))
     by_parity (suc zero) (suc (suc s)) e f ih = absurd (omega (arith, f))
 
--- if the item at place `a` passes, the first `b` items have more passing items than the first `a`, for each `b` above `a`
 pub count_up : {A : Type 0} (p : A → Bool) (xs : List A) (a b : ℕ) (x : A) → slice_get xs a ≡ Some x → p x ≡ true → a < b →
     count_by p (take a xs) < count_by p (take b xs)
 count_up p [] a b x e h lt = cc e

@@ -1,4 +1,4 @@
--- The scans of a test that compare something are those of the rows of the passes that observe a net.
+-- The scans of a test that compare some bit are those of the rows of the passes that observe a net.
 use Rattle.std.proofs.Common.{◌≡◌, inl, inr, ℕ, zero, suc, ◌+◌, ◌*◌, ◌<◌, Bool, true, false, cond, ◌||◌, ◌==◌, List, [], ◌∷◌, ◌++◌, length, filter, drop, take, Option, Some, None, refl, sym, ◌∙◌, ap, subst, arith, length-append}
 use Rattle.std.specs.Prelude.{is_some, slice_get, count_by}
 use Rattle.std.specs.List.{list_any, flat_map}
@@ -39,7 +39,6 @@ use Rattle.tap_defs.proofs.board.PlanLemmas.{observing_is}
 use Rattle.tap_defs.proofs.board.CaptureLemmas.{silent_compares}
 use Rattle.tap_defs.proofs.board.ScanPlaceLemmas.{length-pass_scans, front_at, rest_at, pass_scan_at}
 
--- a scan compares something if one part has a compared bit
 any_joined : (bs : List (List ScanBit)) (k : ℕ) (b : List ScanBit) → slice_get bs k ≡ Some b
     → compares b ≡ true → compares (joined bs) ≡ true
 any_joined [] k b e h = cc e
@@ -52,7 +51,6 @@ any_joined (a ∷ bs) (suc k) b e h =
     ∙ ap (λ (x : Bool). x || compares a) (any_joined bs k b e h)
 
 module _ (board : RawBoard) (rules : IsBoard board) where
-  -- a row is compared if it observes a net and carries a bit on it
   pub row_compares : (now row : TestRow) (n : ℕ) (net : Net) (d : ℕ) (v : Bool) → slice_get board.nets n ≡ Some net →
       observing_driver board row.setting net ≡ Some d → row.carried n ≡ Some v
       → compares (joined (row_bits board (record { now = now; before = row }))) ≡ true
@@ -128,7 +126,8 @@ filter_all p [] h = refl
 filter_all p (x ∷ xs) h =
     ap (λ (b : Bool). cond b (x ∷ filter p xs) (filter p xs)) (h 0 x refl) ∙ cons_path refl (filter_all p xs (λ i. h (suc i)))
 
--- the scans of a pass except its first scan; the first scan compares the quiet row, and the others compare the rows of the pass
+-- The scans of a pass without its first scan. The first scan compares the quiet row, and the others compare the rows of
+-- the pass.
 abbrev pub compared_in : (ℕ → TestRow) → ℕ → List RowScan
 compared_in rows width = drop 1 (pass_scans rows width 0 quiet_row)
 
@@ -146,7 +145,7 @@ compared_in_at rows width j h =
     after_first (pass_scans rows width 0 quiet_row) j
     ∙ pass_scan_at rows width width 0 (suc j) (suc j) quiet_row refl (omega arith) (omega arith) (omega (arith, h))
 
--- if the first scan of each pass is left out, the scans of all passes compare the rows of the passes
+-- Without the first scan of each pass, the scans of all passes compare the rows of the passes.
 gathered : (rows : List Ctl → ℕ → TestRow) (width : ℕ) (passes : List (List Ctl)) →
     CompareRows rows width passes (flat_map (λ pass. compared_in (rows pass) width) passes)
 gathered rows width passes = record { count = count passes; each = λ x pass j e h. each passes x pass j (x * width + j) e h refl }
@@ -179,7 +178,7 @@ gathered rows width passes = record { count = count passes; each = λ x pass j e
         (x * width + j) k (omega (arith, length-compared_in (rows p) width, z))
         ∙ each ps x pass j (x * width + j) e h refl
 
--- rows that have the setting of their pass and carry a bit on every net
+-- each row has the setting of its pass and carries a bit on every net
 pub record AreRowsOf (rows : List Ctl → ℕ → TestRow) : Type 0 where
   pub setting : (pass : List Ctl) (j : ℕ) → (rows pass j).setting ≡ holds pass
   pub carried : (pass : List Ctl) (j n : ℕ) → (v : Bool) × ((rows pass j).carried n ≡ Some v)
@@ -226,7 +225,8 @@ module _ (board : RawBoard) (rules : IsBoard board) (rows : List Ctl → ℕ →
       silent_compares (joined (row_bits board (record { now = now; before = quiet_row })))
       (quiet_silent board now 0 board.chain)
 
-  -- of the scans of a pass after the one that shifts in row `i`, all compare some bit if `b` is true, and none does if `b` is false
+  -- After the scan that shifts in row `i` of a pass, all remaining scans compare some bit if `b` is true, and none does
+  -- if `b` is false.
   kept : (pass : List Ctl) (b : Bool) → ((j : ℕ) (now : TestRow) → Row pass j now b) → (more j i : ℕ) →
       filter test (pass_scans (rows pass) more j (rows pass i)) ≡ cond b (pass_scans (rows pass) more j (rows pass i)) []
   kept pass true h zero j i =
@@ -292,7 +292,6 @@ module _ (board : RawBoard) (rules : IsBoard board) (rows : List Ctl → ℕ →
           (in_pass p true e width) ∙ ap (λ (l : List RowScan). compared_in (rows p) width ++ l) ih
       by_test ih false e = ap (λ (l : List RowScan). l ++ filter test (row_scans rows width ps)) (in_pass p false e width) ∙ ih
 
-  -- the scans that compare some bit are those of the rows of the passes that observe some net
   pub compare_rows : (passes : List (List Ctl))
       → CompareRows rows width (filter (observes_some board) passes)
       (compared_scans board (row_scans rows width passes))
@@ -311,7 +310,6 @@ walk_rows_are board =
           (count_by (is_walked board pass) (take n board.nets) == j, refl);
     }
 
--- each pass of a board observes some net
 module _ (board : RawBoard) (passes : List (List Ctl)) (are : ArePasses board passes) where
   pass_observes : (x : ℕ) (pass : List Ctl) → slice_get passes x ≡ Some pass → observes_some board pass ≡ true
   pass_observes x pass e = elim (are.needed x pass e) [ inl new ↦ by_enabled new | inr new ↦ by_observed new ]
@@ -341,7 +339,6 @@ passes_compare board passes width rules are =
     (compared_scans board (row_scans (code_row board passes) width passes)))
     (all_observe board passes are) (compare_rows board rules (code_row board passes) (code_rows_are board passes) width passes)
 
--- if no net is a walk net, the number of walk nets is 0
 none_counted : (p : Net → Bool) (nets : List Net) → list_any p nets ≡ false → count_by p nets ≡ 0
 none_counted p nets h =
     sym (length-filter p nets)

@@ -1,4 +1,4 @@
--- Under every nonempty observable fault set, some scan of a test is wrong.
+-- Proof that some scan of a test is wrong under every nonempty observable fault set.
 use Rattle.std.proofs.Common.{◌≡◌, ◌≢◌, ℕ, zero, suc, ◌+◌, ◌<◌, ◌==◌, Bool, true, false, not, ◌⊎◌, inl, inr, List, [], ◌∷◌, ◌++◌, Option, Some, None, refl, sym, ◌∙◌, ap, subst, arith}
 use Rattle.std.specs.Prelude.{slice_get, unwrap_or}
 use Rattle.board_defs.specs.declared.board.PinAt.{PinAt}
@@ -21,7 +21,7 @@ use Rattle.tap_defs.proofs.board.FeedingLemmas.{NetRules, dead_at, carries, cut_
 use Rattle.tap_defs.proofs.board.ReadingLemmas.{AllRead, compared, compared_at}
 use Rattle.tap_defs.proofs.board.WrongLemmas.{Compared, IsDead, wrong_if_constant, wrong_if_shorted}
 
--- if a scan shifts this row in, the scan after it is wrong
+-- a scan is wrong if it compares this row
 abbrev pub WrongAt : RawBoard → FaultSet → TestRow → Type 0
 WrongAt board faults row =
     (before now : TestRow)
@@ -39,7 +39,6 @@ after_append : (board : RawBoard) (faults : FaultSet) (row : List (List Bool)) (
 after_append board faults row [] us w = w row
 after_append board faults row (t ∷ ts) us w = inr (after_append board faults (shifted_row board t) ts us w)
 
--- if the scan after one that shifts row `j` in is wrong, the pass has a wrong scan after row `j`
 next_wrong : (board : RawBoard) (faults : FaultSet) (rows : ℕ → TestRow) (more j : ℕ) (before : TestRow) → WrongAt board faults (rows j) →
     SomeWrong board faults (shifted_row board (record { now = rows j; before = before })) (pass_scans rows more (suc j) (rows j))
 next_wrong board faults rows zero j before w = inl (w before quiet_row)
@@ -70,14 +69,15 @@ in_passes board faults rows width (q ∷ ps) (suc x) p j row e h w =
     after_append board faults row (pass_scans (rows q) width 0 quiet_row) (row_scans rows width ps)
     (λ r. in_passes board faults rows width ps x p j r e h w)
 
--- the pass observes net `n` by the pin at place `d`
+-- the pass observes net `n` by the driver at place `d`
 pub record Sees (board : RawBoard) (pass : List Ctl) (n d : ℕ) : Type 0 where
   pub net : Net
   pub rules : NetRules board n net
   pub observing : observing_driver board (holds pass) net ≡ Some d
 
--- a plan: safe passes that observe every covered net, tested driver, tested receiver and pair, with codes that have both
--- bits for each covered net
+-- The properties of passes that make a test detect faults. The passes are safe. They observe every covered net, tested
+-- driver, tested receiver and pair of paired nets. The code of each covered net has a 0 bit and a 1 bit, and the codes
+-- of paired nets differ.
 pub record IsPlan (board : RawBoard) (passes : List (List Ctl)) (width : ℕ) : Type 0 where
   pub read : AllRead board
   pub safe : (x : ℕ) (pass : List Ctl) → slice_get passes x ≡ Some pass → IsSafe board (holds pass)
@@ -103,7 +103,7 @@ short_cases (Some u) a b = b u refl
 
 module _ (board : RawBoard) (passes : List (List Ctl)) (width : ℕ)
     (plan : IsPlan board passes width) (faults : FaultSet) (row : List (List Bool)) where
-  -- while a row of a pass is in the latches, the pin of a compared cell is not a live driver
+  -- While a row of a pass is in the latches, the pin of a compared cell is not a live driver.
   dead : (x : ℕ) (pass : List Ctl) → slice_get passes x ≡ Some pass →
       (n d : ℕ) (s : Sees board pass n d) (j : ℕ) (c : Compared board (holds pass) n s.net) →
       IsDead board (code_row board passes pass j) (record { part = c.k; bit = c.bit })
@@ -129,7 +129,8 @@ module _ (board : RawBoard) (passes : List (List Ctl)) (width : ℕ)
       (unwrap_or (net_bit board faults (pin_states chain) free.shorts n net)
       ((free.parts k).cells cell)) ≡ u
 
-  -- if a compared cell reads the constant `u` in each row, some scan is wrong
+  -- A compared cell that reads the constant `u` in every row makes some scan wrong, because the code of the cell's net
+  -- has the opposite bit in some row.
   constant : (x : ℕ) (pass : List Ctl) → slice_get passes x ≡ Some pass →
       (n d : ℕ) (s : Sees board pass n d) (c : Compared board (holds pass) n s.net) (u : Bool) → IsCovered board n →
       Reads pass n d s.net c.place c.k c.cell u → SomeWrong board faults row (row_scans (code_row board passes) width passes)
@@ -150,7 +151,7 @@ module _ (board : RawBoard) (passes : List (List Ctl)) (width : ℕ)
       (unwrap_or (net_bit board faults (pin_states chain) free.shorts n s.net)
       ((free.parts c.k).cells c.cell))) e)
 
-  -- if a net has the constant `u` in each row, some scan is wrong, whether or not the pin of the compared cell is open
+  -- like `constant`, but for a net that has the constant `u` in every row; the pin of the compared cell may be open
   constant_net : (x : ℕ) (pass : List Ctl) → slice_get passes x ≡ Some pass →
       (n d : ℕ) (s : Sees board pass n d) (c : Compared board (holds pass) n s.net) (u : Bool) → IsCovered board n →
       ((j : ℕ) (before : TestRow) (free : Choice) (chain : List ChainPart)
@@ -211,7 +212,7 @@ module _ (board : RawBoard) (passes : List (List Ctl)) (width : ℕ)
       let c = compared_at board (holds r.1) n r.4.net r.3 i r.5 plan.read r.4.rules r.4.observing r.6 r.7 r.8 in
       opened r.0 r.1 r.2 n r.3 r.4 c.0 u cov (ap (λ (x : ℕ). faults.opened n x) c.1 ∙ e)
 
-  -- if a tested driver is open, some scan is wrong: the driver's net is stuck, in a short, or has a constant
+  -- If a tested driver is open, its net is stuck, in a short, or constant. Each case makes some scan wrong.
   pub open_driver : IsObservable board faults → (n d : ℕ) (u : Bool) → faults.opened n d ≡ Some u → IsTestedDriver board n d →
       IsCovered board n → SomeWrong board faults row (row_scans (code_row board passes) width passes)
   open_driver observable n d u e tested cov =
@@ -246,7 +247,6 @@ module _ (board : RawBoard) (passes : List (List Ctl)) (width : ℕ)
   open_pin o n i u e (inl t) = open_driver o n i u e t (driver_covered n i t)
   open_pin o n i u e (inr t) = open_receiver n i u e t (receiver_covered n i t)
 
-  -- every nonempty observable fault set makes some scan wrong
   pub detected : IsObservable board faults → IsNonempty faults → SomeWrong board faults row (row_scans (code_row board passes) width passes)
   detected o (some_stuck n u e) = stuck n u e (o.stuck n u e)
   detected o (some_open n i u e) = open_pin o n i u e (o.opened n i u e)

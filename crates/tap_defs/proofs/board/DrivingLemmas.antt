@@ -1,4 +1,5 @@
--- While a row is in the latches, each unguarded net is driven by the driver that the row enables, with the bit of the driver's cell.
+-- While a row is in the latches, the driver that the row enables drives an unguarded net to the bit of the driver's
+-- cell.
 use Rattle.std.proofs.Common.{◌≡◌, ℕ, zero, suc, ◌+◌, ◌==◌, Bool, true, false, cond, not, ◌&&◌, List, [], ◌∷◌, Option, Some, None, refl, sym, ◌∙◌, ap, subst, arith}
 use Rattle.std.specs.Prelude.{slice_get, unwrap_or, option_map, option_and_then}
 use Rattle.std.specs.List.{list_all}
@@ -30,7 +31,6 @@ use Rattle.tap_defs.proofs.board.NetRuleLemmas.{board_rules}
 use Rattle.tap_defs.proofs.board.FixedLemmas.{under_extest}
 use Rattle.tap_defs.proofs.board.OneResponseLemmas.{holding_chain, held_in_test, all_show}
 
--- if there is no first enabled pin, no pin is enabled
 none_enabled : (board : RawBoard) (setting : Enabling) (m : ℕ) (ps : List NetPin) → first_enabled board setting m ps ≡ None →
     (i : ℕ) (p : NetPin) → slice_get ps i ≡ Some p → enables board setting p ≡ false
 none_enabled board setting m [] e i p ep = cc ep
@@ -82,7 +82,7 @@ module _ (board : RawBoard) (row : TestRow) (safe : IsSafe board row.setting)
         (λ on. both_ways (enables board row.setting p) off
         (live_on board row safe rules before chain h n net i p en ep on))
 
-    -- since the enabled driver is the only live driver, it alone decides how the net is driven
+    -- The enabled driver is the only live driver, so it alone decides how the net is driven.
     module _ (d : ℕ) (pin : NetPin) (stands : slice_get net.pins d ≡ Some pin) (enabled : enables board row.setting pin ≡ true) where
       alone_is : feeding_from board (pin_states chain) 0 net.pins
           ≡ with_pin (live board (pin_states chain) pin) d

@@ -1,4 +1,5 @@
--- From any state, the head of a test and its first three scans lead to EXTEST with the quiet row in the latches.
+-- From any state, the head of a test and its first three scans give the described parts the instruction EXTEST and put
+-- the quiet row into the latches.
 use Rattle.std.proofs.Common.{not, ◌≡◌, ◌≢◌, ℕ, zero, suc, ◌<◌, ◌≤◌, Bool, true, false, cond, ◌&&◌, List, [], ◌∷◌, length, map, Option, Some, refl, sym, ◌∙◌, ap, subst, length-append, take, arith, ◌++◌, ◌==◌, None}
 use Rattle.std.specs.Prelude.{slice_get, option_map, unwrap_or}
 use Rattle.std.specs.List.{list_all, AllByRecursion}
@@ -47,14 +48,13 @@ use Rattle.tap_defs.proofs.chain.HeadLemmas.{chain_logics, chain_lengths, ir_siz
 use Rattle.tap_defs.proofs.chain.InstructLemmas.{AllRoom, tdi_bits-instructs, instructs_pass, length-instructs}
 use Rattle.tap_defs.proofs.chain.RowLemmas.{all_ones-replicate}
 
--- each of these parts keeps the rules of parts (a definition by recursion on the chain)
+-- each of these parts meets the rules of parts, stated by recursion on the chain
 abbrev pub Parts : List Part → Type 0
 Parts ps = AllByRecursion (λ p. IsPart p.kind) ps
 
 pub parts_of : (board : RawBoard) → IsBoard board → Parts board.chain
 parts_of board rules = recursion_from_All (λ (p : Part). IsPart p.kind) board.chain rules.parts
 
--- the board gives each part as many bits as the part has boundary cells
 captured_size : (board : RawBoard) (faults : FaultSet) (free : Choice) (chain : List ChainPart) (k : ℕ) (p : Part) →
     slice_get board.chain k ≡ Some p → length (bits_at_pins (board_wiring board faults) free chain k) ≡ (test_logic p.kind).boundary_length
 captured_size board faults free chain k p e =
@@ -81,7 +81,6 @@ fits_logics : (ps : List Part) (pins : ℕ → List Bool) →
 fits_logics [] pins q = tt
 fits_logics (p ∷ ps) pins q = (q 0 p refl, fits_logics ps (λ k. pins (suc k)) (λ k. q (suc k)))
 
--- a run keeps the parts of the chain and the lengths of their registers
 pub stays_of : (board : RawBoard) → IsBoard board → (faults : FaultSet) (cs : List Clock) (free : Choices) (chain : List ChainPart) →
     IsBoardChain board chain → IsBoardChain board (run (board_wiring board faults) cs free chain)
 stays_of board rules faults cs free chain h =
@@ -115,7 +114,7 @@ code_lengths : (code : PartKind → List Bool) (ps : List Part) → CodesFit cod
 code_lengths code [] h = refl
 code_lengths code (p ∷ ps) h = cons_path h.0 (code_lengths code ps h.1)
 
--- in each part, its code means its instruction
+-- the code of each part means the instruction of the part
 abbrev pub CodesMean : (PartKind → List Bool) → (PartKind → Instruction) → List Part → Type 0
 CodesMean code instruction [] = Unit {0}
 CodesMean code instruction (p ∷ ps) =
@@ -138,7 +137,7 @@ meanings code instruction (p ∷ ps) (n ∷ chain) h f c =
     ∙ ap (λ (x : List Bool). instruction_of (test_logic p.kind) x) c0 ∙ h.0)
     (meanings code instruction ps chain h.1 f1 c1)
 
--- the effect of an instruction scan on the board: the scan passes, and each part then has its instruction
+-- The effect of an instruction scan on the board: the scan passes, and each part then has its instruction.
 pub record Instructed (board : RawBoard) (instruction : PartKind → Instruction)
     (clocks : List Clock) (out : List Bool) (chain next : List ChainPart) : Type 0 where
   pub passes : run_passes clocks out ≡ true
@@ -284,7 +283,7 @@ pub extest_means : (ps : List Part) → Parts ps → CodesMean extest_code in_te
 extest_means [] h = tt
 extest_means (p ∷ ps) h = (extest_means_one p.kind h.0, extest_means ps h.1)
 
--- the scan compares no bit
+-- no bit of the scan is compared
 abbrev pub AllSilent : List ScanBit → Type 0
 AllSilent [] = Unit {0}
 AllSilent (b ∷ bits) = (b.expect ≡ None) × AllSilent bits
@@ -306,7 +305,6 @@ pub only_if-None : (b : Bool) → only_if b None ≡ None
 only_if-None true = refl
 only_if-None false = refl
 
--- in the quiet row, no cell is compared
 pub quiet_expects : (board : RawBoard) (k : ℕ) (device : RawDevice) (cell : ℕ) → expect_bit board quiet_row k device cell ≡ None
 quiet_expects board k device cell = by_entry (reading_entry device cell)
   where
@@ -358,7 +356,6 @@ quiet_compares board now os =
     silent_passes (joined (row_bits board (record { now = now; before = quiet_row }))) os
     (quiet_silent board now 0 board.chain)
 
--- a data scan has at least one bit for each part
 row_scan_total : (board : RawBoard) (t : RowScan) (k : ℕ) (ps : List Part) → Parts ps
     → length ps ≤ length (joined (bits_by_part board t k ps))
 row_scan_total board t k [] h = omega arith
@@ -387,7 +384,7 @@ row_scan_total board t k (p ∷ ps) h =
 pub row_scan_some : (board : RawBoard) → IsBoard board → (t : RowScan) → 0 < length (joined (row_bits board t))
 row_scan_some board rules t = omega (arith, row_scan_total board t 0 board.chain (parts_of board rules), rules.chain_some)
 
--- while the quiet row is shifted in, each part selects a register of the model
+-- if the parts have the instructions of `preloading`, each selects a register of the model
 preload_in : (ps : List Part) (chain : List ChainPart) → map (λ n. n.state.current) chain ≡ map (λ p. preloading p.kind) ps →
     AllIn RunTestIdle chain → AllSelectingIn RunTestIdle chain
 preload_in ps [] e h = tt
@@ -434,7 +431,7 @@ preload_sizes board t k (p ∷ ps) (n ∷ chain) pins free e f h =
         }))
     one (WithoutDescription m) q = refl
 
--- the effect of the scan that shifts the quiet row in: it passes, and the quiet row is then in the latches
+-- The effect of the scan that shifts in the quiet row: it passes, and the quiet row is then in the latches.
 pub record Preloaded (board : RawBoard) (t : RowScan) (clocks : List Clock) (out : List Bool) (next : List ChainPart) : Type 0 where
   pub passes : run_passes clocks out ≡ true
   pub is_start : IsBoardChain board next
@@ -471,7 +468,7 @@ preloads board rules faults now free chain h tap e =
           (s.stays ∙ drop_front (length bits) (joined registers) (tdi_bits bits) fits ∙ tdi_bits-joined (row_bits board t));
     }
 
--- the quiet row stays in the latches when EXTEST becomes current
+-- The quiet row stays in the latches when EXTEST becomes the current instruction.
 stored_same : (ps : List Part) (chain ms : List ChainPart) → map (λ n. n.state.current) chain ≡ map (λ p. preloading p.kind) ps →
     map (λ n. n.state.current) ms ≡ map (λ p. in_test p.kind) ps → map code_frame ms ≡ map code_frame chain → all_held ms ≡ all_held chain
 stored_same ps [] [] e f g = refl
@@ -584,7 +581,7 @@ module _ (board : RawBoard) (rules : IsBoard board) (faults : FaultSet) (states 
       enters board first_row_scan preloaded entered scan1.currents scan1.stays scan2.frames
       scan2.is_start scan2.idle scan2.currents
 
-  -- a whole text passes if and only if its scans of rows pass
+  -- Whether a whole test passes depends only on its data scans after the EXTEST codes.
   pub whole_passes_as : (ts : List RowScan) →
       run_passes (test_clocks (board_scans board ts))
       (tdos wiring (test_clocks (board_scans board ts)) free states)

@@ -25,16 +25,16 @@ use Rattle.std.proofs.lemmas.Bool.{and_parts, both_ways, eq-eqb, false_from_ne_t
 use Rattle.tap_defs.proofs.board.InTestLemmas.{InTest, shifted_row}
 use Rattle.tap_defs.proofs.board.LiveLemmas.{IsWired, found, find_some, control_on, latch_is, extest_is, dead_if_off}
 
--- what the rules of boards say about a pin of a net: its part is not described, or the part is in the chain and the pin has
--- this place in the nets
+-- What the rules of boards say about the pin at place `i` of net `n`. Either its part is not described, or its part is
+-- in the chain and this is its only place in the nets.
 pub data PinRules (board : RawBoard) (n : ℕ) (net : Net) (i : ℕ) (p : NetPin) : Type 0 where
   apart : p.at ≡ None → PinRules board n net i p
   placed : (at : PinAt) (part : Part) (device : RawDevice) → p.at ≡ Some at → slice_get board.chain at.part ≡ Some part →
       part.kind ≡ Described device → IsWired device → is_pinned board at ≡ true →
       place_of at 0 board.nets ≡ Some (record { number = n; net = net; place = i }) → PinRules board n net i p
 
--- what the rules of boards say about net `n`: its place, the facts about its pins, and that if a pin of the net is a
--- switching driver, it is one of this net
+-- What the rules of boards say about net `n`: its place in the list of nets, its pins, and its pull. A pin is on one
+-- net only. So if a pin of net `n` is on an unguarded net that is pulled to `value`, net `n` is pulled to `value`.
 pub record NetRules (board : RawBoard) (n : ℕ) (net : Net) : Type 0 where
   pub stands : slice_get board.nets n ≡ Some net
   pub pins : (i : ℕ) (p : NetPin) → slice_get net.pins i ≡ Some p → PinRules board n net i p
@@ -87,7 +87,6 @@ observing_at board setting net d e = go (guarded board net) refl e
         let z : r.0 ≡ d = omega (arith, r.2) in
         record { pin = r.1; stands = subst (λ (i : ℕ). slice_get net.pins i ≡ Some r.1) z r.3; enabled = r.4; unguarded = q }
 
--- if no pin is live, the net is undriven
 pub all_dead : (board : RawBoard) (pin_state : List PinState) (m : ℕ) (ps : List NetPin) →
     ((i : ℕ) (p : NetPin) → slice_get ps i ≡ Some p → live board pin_state p ≡ false) → feeding_from board pin_state m ps ≡ Undriven
 all_dead board pin_state m [] q = refl
@@ -151,7 +150,6 @@ module _ (board : RawBoard) (row : TestRow) (safe : IsSafe board row.setting) (n
       ∙ ap (λ (o : Option ℕ). data_observed (row.carried n) i o) observing
       ∙ ap (λ (b : Bool). only_if b (row.carried n)) (differ i d ne))
 
-  -- no pin other than the enabled driver is live
   pub dead_at : (i : ℕ) (p : NetPin) → slice_get net.pins i ≡ Some p → i ≢ d → live board (pin_states chain) p ≡ false
   dead_at i p e ne = dead_by i p e ne (rules.pins i p e)
 
@@ -313,14 +311,12 @@ or_twice : (pull : Option Bool) (u v : Bool) → pull ≡ Some v → bit_or_else
 or_twice (Some p) u v e = refl
 or_twice None u v e = cc e
 
--- without faults, the net has the bit that it carries
 pub good_bit : (d n : ℕ) (pull : Option Bool) (v : Bool) (f : Feeding) → Carries d pull v f → unshorted_bit no_faults n pull f ≡ Some v
 good_bit d n pull v f (driven e) = ap (λ (x : Feeding). unshorted_bit no_faults n pull x) e
 good_bit d n pull v f (pulled e p) =
     ap (λ (x : Feeding). unshorted_bit no_faults n pull x) e
     ∙ ap (λ (o : Option Bool). bit_or_else None (bit_or_else o None)) p
 
--- if the driver is open, the net has a constant: its pull, or the constant of the driver if the net has no pull
 pub cut_bit : (faults : FaultSet) (d n : ℕ) (pull : Option Bool) (u v : Bool) (f : Feeding) → faults.opened n d ≡ Some u →
     Carries d pull v f → unshorted_bit faults n pull f ≡ bit_or_else pull (Some u)
 cut_bit faults d n pull u v f o (driven e) =

@@ -23,7 +23,6 @@ use Rattle.tap_defs.proofs.board.FeedingLemmas.{PinRules, apart, placed, all_dea
 use Rattle.tap_defs.proofs.board.QuietLemmas.{BoardRules, live_on}
 use Rattle.tap_defs.proofs.board.ResponseLemmas.{driven_bit, plain_is}
 
--- if at most one of the pins is live, their net has at most one live driver
 one_feeds : (board : RawBoard) (states : List PinState) (m : ℕ) (ps : List NetPin) →
     ((i j : ℕ) (p q : NetPin) → slice_get ps i ≡ Some p → slice_get ps j ≡ Some q → i ≢ j
     → live board states p ≡ true → live board states q ≡ true → ⊥) →
@@ -44,7 +43,6 @@ one_feeds board states m (p ∷ ps) one =
         (λ i q eq. false_from_ne_true (live board states q)
         (λ on. one 0 (suc i) p q refl eq (λ z. absurd (omega (arith, z))) e on)))
 
--- if each net of short `k` passes a test, all items of the list of these nets pass it
 shorted_pass : (faults : FaultSet) (k n : ℕ) (nets : List Net) (test : OfNet Net → Bool) →
     ((i : ℕ) (net : Net) → slice_get nets i ≡ Some net → faults.short (n + i) ≡ Some k
     → test (n + i, net) ≡ true) → list_all test (shorted_nets faults k n nets) ≡ true
@@ -95,7 +93,7 @@ shorted_has faults k n (x ∷ nets) (suc i) net e s =
     by_test rest true = inr rest
     by_test rest false = rest
 
--- if some net of a short is fed or held, the bit of the short is not free
+-- If some net of a short is fed or held, the bit of the short does not depend on the free bit.
 combined_fixed : (kind : ShortKind) (fs hs : List (OfNet Bool)) (x : OfNet Bool) → Has fs x ⊎ Has hs x → (free other : Bool) →
     first_combined kind fs hs free ≡ first_combined kind fs hs other
 combined_fixed kind (f ∷ fs) hs x h free other = refl

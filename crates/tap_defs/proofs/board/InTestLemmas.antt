@@ -19,7 +19,8 @@ abbrev pub in_test : PartKind → Instruction
 in_test (Described device) = Extest
 in_test (WithoutDescription n) = Bypass
 
--- between two scans, each described part has EXTEST, each other part has BYPASS, and this row is in the latches
+-- The state of the chain between two scans. Each described part has EXTEST, each other part has BYPASS, and `row` is in
+-- the latches.
 pub record InTest (board : RawBoard) (row : List (List Bool)) (chain : List ChainPart) : Type 0 where
   pub idle : AllSelectingIn RunTestIdle chain
   pub logics_are : map (λ n. n.logic) chain ≡ map (λ p. test_logic p.kind) board.chain
@@ -29,7 +30,7 @@ pub record InTest (board : RawBoard) (row : List (List Bool)) (chain : List Chai
 abbrev pub shifted_row : RawBoard → RowScan → List (List Bool)
 shifted_row board t = map tdi_bits (row_bits board t)
 
--- the scan is wrong: in every run in which `row` is in the latches before the scan, it finds a wrong bit
+-- A scan is wrong if it finds a wrong bit in every run in which `row` is in the latches before the scan.
 abbrev pub IsWrong : RawBoard → FaultSet → List (List Bool) → RowScan → Type 0
 IsWrong board faults row t =
     (chain : List ChainPart) (free : Choice) → InTest board row chain

@@ -32,7 +32,7 @@ use Rattle.tap_defs.proofs.board.InTestLemmas.{in_test, InTest, shifted_row}
 use Rattle.tap_defs.proofs.chain.ScanLemmas.{filled_at}
 use Rattle.tap_defs.proofs.board.WrongLemmas.{bits_at}
 
--- the rules of devices on control cells
+-- what the rules of devices say about control cells
 pub record IsWired (device : RawDevice) : Type 0 where
   pub below : (i : ℕ) (e : Cell) (control : Control) → slice_get device.cells i ≡ Some e → e.ctl ≡ Some control →
       control.cell < device.boundary
@@ -51,12 +51,10 @@ found_by : (p : Cell → Bool) (xs : List Cell) (x y : Cell) → (find p xs ≡ 
 found_by p xs x y ih true q h = let z : y ≡ x = cc h in (subst (λ (w : Cell). p w ≡ true) z q, (0, h))
 found_by p xs x y ih false q h = let r = ih h in (r.0, (suc r.1.0, r.1.1))
 
--- the item that `find` returns passes the test and is in the list
 pub found : (p : Cell → Bool) (xs : List Cell) (x : Cell) → find p xs ≡ Some x → (p x ≡ true) × ((i : ℕ) × (slice_get xs i ≡ Some x))
 found p [] x e = cc e
 found p (y ∷ xs) x e = found_by p xs x y (found p xs x) (p y) refl e
 
--- if some item passes, `find` returns an item
 pub find_some : (p : Cell → Bool) (xs : List Cell) (i : ℕ) (x : Cell) → slice_get xs i ≡ Some x → p x ≡ true →
     (y : Cell) × (find p xs ≡ Some y)
 find_some p [] i x e q = cc e
@@ -151,7 +149,7 @@ pub same_self : (b : Bool) → not (is_same b b) ≡ false
 same_self true = refl
 same_self false = refl
 
--- a driver is not live if the setting does not enable it and its cell carries no net's bit
+-- A driver is not live if the setting does not enable it and its cell carries no net's bit.
 pub dead_if_off : (board : RawBoard) (row before : TestRow) (chain : List ChainPart) (k b : ℕ) (part : Part) (device : RawDevice) →
     let t : RowScan = record { now = row; before = before } in
     let at : PinAt = record { part = k; bit = b } in
@@ -237,7 +235,8 @@ dead_if_off board row before chain k b part device h ek ed wired pinned off idle
         let f = found (drives_bit b) device.cells c e in
         by_ctl c f.1.0 f.0 f.1.1 c.ctl refl (sym (ap (λ (o : Option Cell). enables_entry row.setting k o) e) ∙ off_entry)
 
--- if a control of the setting is not the driver's own cell, its latch has the opposite of the disable value
+-- The latch of a control in the setting has the opposite of the disable value, unless the control is the driver's own
+-- cell.
 pub control_on : (board : RawBoard) (row before : TestRow) (chain : List ChainPart) (at : PinAt) (part : Part) (device : RawDevice) →
     InTest board (shifted_row board (record { now = row; before = before })) chain → slice_get board.chain at.part ≡ Some part →
     part.kind ≡ Described device → IsWired device → is_pinned board at ≡ true → (e : Cell) (i : ℕ) → drives_bit at.bit e ≡ true →

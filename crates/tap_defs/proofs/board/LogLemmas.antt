@@ -1,4 +1,4 @@
--- Logs of a test: the statements that have rows in a log, and the faults that explain a log of the expected bits.
+-- The statements of a test that have rows in its logs, and the faults that explain a log of expected bits.
 use Rattle.std.proofs.Common.{◌≡◌, ◌↔◌, ℕ, suc, ◌+◌, ◌≤◌, ◌^◌, Bool, true, false, cond, ◌||◌, List, [], ◌∷◌, length, map, filter, Option, Some, None, refl, sym, ◌∙◌, ap, subst, arith, length-append}
 use Rattle.std.specs.Prelude.{is_some, count_by}
 use Rattle.std.specs.List.{AllByRecursion, sum_by}
@@ -42,7 +42,6 @@ filter-map p f (x ∷ xs) = by_test (p (f x)) (filter-map p f xs)
     by_test true e = cons_path refl e
     by_test false e = e
 
--- the compared SDR statements of a test are those of the compared data scans
 pub statements_compared : (board : RawBoard) (scans : List RowScan) →
     filter is_compared (board_scans board scans) ≡ map (scan_of_row board) (compared_scans board scans)
 statements_compared board scans =
@@ -58,7 +57,6 @@ rows_counted board scans =
     ∙ ap (λ (l : List Scan). length l) (statements_compared board scans)
     ∙ length-map (compared_scans board scans) (scan_of_row board)
 
--- a data scan has as many bits as the data registers of its parts together
 length-bits_by_part : (board : RawBoard) (t : RowScan) (k : ℕ) (ps : List Part) →
     length (joined (bits_by_part board t k ps)) ≡ sum_by (λ p. data_length p.kind) ps
 length-bits_by_part board t k [] = refl
@@ -73,7 +71,6 @@ length-bits_by_part board t k (p ∷ ps) =
 pub length-row_bits : (board : RawBoard) (t : RowScan) → length (joined (row_bits board t)) ≡ data_bits board
 length-row_bits board t = length-bits_by_part board t 0 board.chain
 
--- if a bit of a log passes a comparison, it is the expected bit
 value_is : (o : Option Bool) (r : Bool) → bit_passes o r ≡ true → cond (is_some o) (Some r) None ≡ o
 value_is None r h = refl
 value_is (Some true) true h = refl
@@ -97,7 +94,7 @@ silent_same (b ∷ bits) e = by_expect (silent_same bits) b.expect refl e
     by_expect ih None q h = cons_path (ap (λ (o : Option Bool). record b { expect = o }) (sym q)) (ih h)
     by_expect ih (Some v) q h = cc h
 
--- if a log has the expected bits, the statements are the same with its rows in place of the expected bits
+-- Replacing the expected bits of the statements by the rows of an expected log changes nothing.
 module _ (board : RawBoard) where
   abbrev statement : RowScan → Scan
   statement t = scan_of_row board t
@@ -163,8 +160,7 @@ module _ (board : RawBoard) where
       (ap (λ (scans : List Scan). are_expected scans log)
       (filter-map is_compared statement ts ∙ sym (statements_compared board ts)) ∙ e.bits)
 
-  -- the statements of a test shift its rows in; so the text passes if and only if its scans pass with the bits that the
-  -- board captures for the rows
+  -- the statements of a test shift in its rows
   plain_shifts : (ts : List RowScan) → ShiftRows board ts (map statement ts)
   plain_shifts [] = tt
   plain_shifts (t ∷ ts) = (refl, refl, plain_shifts ts)
@@ -197,7 +193,6 @@ module _ (board : RawBoard) where
             (tdos (board_wiring board faults) clocks g under_extest))
             (left_always board rules faults ts [] choice chain start)) ∙ run_ok)
 
-    -- the faults that explain a log of the expected bits are those under which the text passes
     pub expected_explained : (log : List (List Bool)) → IsExpected board ts log →
         ExplainedBy board faults ts log ↔ PassOnBoard board faults (test_clocks (board_scans board ts))
     expected_explained log e =
@@ -210,7 +205,8 @@ module _ (board : RawBoard) where
           },
         )
 
-  -- a text can't both pass and fail under a fault set; so a fault set that the text detects explains no log of the expected bits
+  -- No text both passes and fails under a fault set, because the board has at least one run. So a fault set that the
+  -- text detects explains no log of expected bits.
   not_both : (faults : FaultSet) (clocks : List Clock) → FailOnBoard board faults clocks → PassOnBoard board faults clocks → ⊥
   not_both faults clocks fails passes =
       let free : Choices = λ k. some_choice in

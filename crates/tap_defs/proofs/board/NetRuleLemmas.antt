@@ -29,7 +29,6 @@ use Rattle.tap_defs.proofs.board.FeedingLemmas.{PinRules, apart, placed, NetRule
 use Rattle.tap_defs.proofs.board.ReadingLemmas.{IsRead, any_is, AllRead}
 use Rattle.tap_defs.proofs.board.QuietLemmas.{BoardRules, device_of, control_is}
 
--- at one place, a list has only one item
 same_item : {A : Type 0} (xs : List A) (i j : ℕ) (x y : A) → slice_get xs i ≡ Some x → slice_get xs j ≡ Some y → i ≡ j → y ≡ x
 same_item xs i j x y ex ey e =
     let two : Some y ≡ Some x = sym ey ∙ sym (ap (λ (k : ℕ). slice_get xs k) e) ∙ ex in
@@ -152,7 +151,7 @@ module _ (device : RawDevice) (rules : IsDevice device) where
     num_below = num_below;
   }
 
--- if a pin occurs only once in the nets, the search for the pin finds its place
+-- The search for a pin that occurs only once in the nets finds its place.
 self_at : (at : PinAt) → is_at at (Some at) ≡ true
 self_at at = ap (λ (b : Bool). b && (at.bit == at.bit)) (eq-eqb at.part at.part refl) ∙ eq-eqb at.bit at.bit refl
 

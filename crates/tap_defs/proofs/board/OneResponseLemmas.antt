@@ -39,7 +39,7 @@ agree_self : (o : Option Bool) (x y : Bool) → x ≡ y → AgreeAt o x y
 agree_self None x y e = tt
 agree_self (Some v) x y e = e
 
--- a compared cell captures the same bit with two choices of the free bits
+-- A compared cell captures the same bit with two choices of the free bits.
 module _ (board : RawBoard) (row : TestRow) (safe : IsSafe board row.setting)
     (rules : BoardRules board) (before : TestRow) (chain : List ChainPart)
     (h : InTest board (shifted_row board (record { now = row; before = before })) chain)
@@ -144,7 +144,6 @@ agree_append (b ∷ bs) cs [] ys us vs p q h k = absurd (omega (arith, p))
 agree_append (b ∷ bs) cs (x ∷ xs) [] us vs p q h k = absurd (omega (arith, q))
 agree_append (b ∷ bs) cs (x ∷ xs) (y ∷ ys) us vs p q h k = (h.0, agree_append bs cs xs ys us vs (omega (arith, p)) (omega (arith, q)) h.1 k)
 
--- if the captures of each part agree wherever the scan compares, so do the joined captures
 parts_agree : (board : RawBoard) (t : RowScan) (k : ℕ) (ps : List Part) (pins others : ℕ → List Bool) → FitsPins pins ps →
     FitsPins others ps →
     ((i : ℕ) (p : Part) → slice_get ps i ≡ Some p
@@ -173,7 +172,6 @@ parts_agree board t k (p ∷ ps) pins others f g q =
     (bits_fit board t (suc k) ps (λ j. others (suc j)) (λ j. g (suc j))))
     rest here
 
--- while the row is in the latches, any two captures of the scan agree wherever it compares
 pub row_agrees : (board : RawBoard) (t : RowScan) → IsSafe board t.before.setting → BoardRules board →
     (earlier : TestRow) (chain : List ChainPart) → InTest board (shifted_row board (record { now = t.before; before = earlier })) chain →
     (faults : FaultSet) → IsFaultSet board faults → NoOpenShorted faults → (choice other : Choice) →

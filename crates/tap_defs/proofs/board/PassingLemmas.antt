@@ -40,7 +40,8 @@ all_cells (suc n) f g q =
     ap (λ (b : Bool). b && scan_passes (filled n (λ k. f (suc k))) (filled n (λ k. g (suc k)))) (q 0 (omega arith))
     ∙ all_cells n (λ k. f (suc k)) (λ k. g (suc k)) (λ c h. q (suc c) (omega arith))
 
--- place `p`, which a search in the nets returned, is the place of the pin at this port bit
+-- `p` is the place of the pin at port bit `at` in these nets, the first of which has number `m`. A search for the pin
+-- returned this place.
 pub record Stands (board : RawBoard) (at : PinAt) (p : Place) (m : ℕ) (nets : List Net) : Type 0 where
   pub index : ℕ
   pub number_is : p.number ≡ m + index
@@ -182,7 +183,6 @@ none_there pins [] k e = refl
 none_there pins (p ∷ ps) zero e = cc e
 none_there pins (p ∷ ps) (suc k) e = none_there (λ j. pins (suc j)) ps k e
 
--- without faults, a scan that compares a row passes if that row is in the latches
 pub good_scan : (board : RawBoard) (row : TestRow) → IsSafe board row.setting →
     ((n : ℕ) (net : Net) → slice_get board.nets n ≡ Some net → NetRules board n net) →
     (now before : TestRow) (free : Choice) (chain : List ChainPart) →

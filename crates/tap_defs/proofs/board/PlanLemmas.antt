@@ -1,4 +1,4 @@
--- Passes that meet the requirements on passes form a plan, if their codes have enough bits.
+-- Passes that meet the requirements on passes form a plan (`IsPlan`) if their codes have enough bits.
 use Rattle.std.specs.Prelude.{is_some, nat_lt, slice_get}
 use Rattle.std.proofs.Common.{◌≡◌, ◌+◌, ◌∷◌, true, ◌≢◌, [], false, ◌&&◌, ◌<◌, Some, suc, ◌≤◌, ◌∙◌, ◌==◌, zero, ◌^◌, refl, ℕ, Bool, List, None, ◌||◌, Option, cond, arith, ap, not, ltb-true, ltb-false, sym, subst}
 use Rattle.board_defs.specs.declared.board.Ctl.{Ctl}
@@ -22,7 +22,6 @@ use Rattle.tap_defs.proofs.board.NetRuleLemmas.{all_read, net_rules}
 use Rattle.tap_defs.proofs.board.CodeBitLemmas.{has_one, count_whole, count_up, has_zero, codes_differ}
 use Rattle.tap_defs.proofs.board.DetectionLemmas.{IsPlan, Sees}
 
--- if a setting enables only one of some pins, that pin is the first enabled pin
 first_is : (board : RawBoard) (setting : Enabling) (m d : ℕ) (ps : List NetPin) (p : NetPin) → slice_get ps d ≡ Some p →
     enables board setting p ≡ true →
     ((i : ℕ) (q : NetPin) → slice_get ps i ≡ Some q → enables board setting q ≡ true → i ≡ d)
@@ -75,7 +74,6 @@ observing_is board setting safe n net d en o =
     by_decision i q ei on true h = eqb-true i d h
     by_decision i q ei on false h = absurd (safe.one n net i d q o.pin en ei o.stands (λ e. eqb-false i d h e) on o.enabled)
 
--- if a pin is the observing driver, the setting observes the net by it
 pub observed_by : (board : RawBoard) (setting : Enabling) (net : Net) (d : ℕ) → observing_driver board setting net ≡ Some d →
     ObservesBy board setting net d
 observed_by board setting net d e =
@@ -112,7 +110,7 @@ module _ (board : RawBoard) (rules : IsBoard board) (passes : List (List Ctl))
             (holds pass) (are.safe x pass e) n net d en o;
       }
 
-  -- a covered net, which some pass observes, so that the net has a code
+  -- a covered net, which has a code because some pass observes it
   record Coded (n : ℕ) : Type 0 where
     net : Net
     stands : slice_get board.nets n ≡ Some net
@@ -190,7 +188,6 @@ module _ (board : RawBoard) (rules : IsBoard board) (passes : List (List Ctl))
     differ = differ;
   }
 
--- some pass observes a net if and only if the net is covered
 pub observed_covered : (board : RawBoard) → IsBoard board → (passes : List (List Ctl)) → ArePasses board passes → (n : ℕ) (net : Net) →
     slice_get board.nets n ≡ Some net →
     is_observed board passes net ≡ is_covered board net

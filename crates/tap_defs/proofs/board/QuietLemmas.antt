@@ -1,4 +1,4 @@
--- The rows of a safe pass are quiet.
+-- While a row of a safe pass is in the latches, the board is quiet.
 use Rattle.std.proofs.Common.{◌≡◌, ℕ, ◌<◌, ◌==◌, Bool, true, false, cond, not, ◌&&◌, ◌||◌, inr, List, Option, Some, None, refl, sym, ◌∙◌, ap, subst, arith}
 use Rattle.std.specs.Prelude.{slice_get, unwrap_or, option_map, option_and_then}
 use Rattle.std.specs.List.{list_any}
@@ -81,7 +81,7 @@ module _ (board : RawBoard) (row : TestRow) (safe : IsSafe board row.setting)
   abbrev t : RowScan
   t = record { now = row; before = before }
 
-  -- if a cell carries a net's bit, the pin of the cell is an enabled driver of the net
+  -- If a cell carries a net's bit, its pin is an enabled driver of the net, and the net is unguarded.
   carries_code : (at : PinAt) (p : Place) (i : ℕ) → place_of at 0 board.nets ≡ Some p → observing_driver board row.setting p.net ≡ Some i →
       (i == p.place) ≡ true →
       (enables_at board row.setting at ≡ true)
@@ -101,7 +101,6 @@ module _ (board : RawBoard) (row : TestRow) (safe : IsSafe board row.setting)
         (w.unguarded, (s.pin, s.pin_is, s.at_is), subst (λ (x : ℕ). slice_get board.nets x ≡ Some p.net) n s.net_is),
       )
 
-  -- the cell of a driver that is off carries no net's bit
   off_idle : (at : PinAt) → enables_at board row.setting at ≡ false → data_place board row (place_of at 0 board.nets) ≡ None
   off_idle at off = by_place (place_of at 0 board.nets) refl
     where
@@ -119,7 +118,6 @@ module _ (board : RawBoard) (row : TestRow) (safe : IsSafe board row.setting)
       by_place None e = refl
       by_place (Some p) e = by_driver p e (observing_driver board row.setting p.net) refl
 
-  -- every live driver is enabled
   pub live_on : (n : ℕ) (net : Net) (i : ℕ) (p : NetPin) → slice_get board.nets n ≡ Some net → slice_get net.pins i ≡ Some p →
       live board (pin_states chain) p ≡ true → enables board row.setting p ≡ true
   live_on n net i p en ei on = by_rules ((rules.nets n net en).pins i p ei)
@@ -141,7 +139,6 @@ module _ (board : RawBoard) (row : TestRow) (safe : IsSafe board row.setting)
       by_rules (placed at part device a ek ed wired pinned place) =
           by_test at part device a ek ed wired pinned (enables_at board row.setting at) refl
 
-  -- every control that is on belongs to the setting of the row
   set_within : (c : Ctl) → latched_setting board (pin_states chain) c ≡ true → row.setting c ≡ true
   set_within c on = by_device (device_at board c.part) refl on
     where
@@ -222,15 +219,12 @@ module _ (board : RawBoard) (row : TestRow) (safe : IsSafe board row.setting)
           let b = pinned_is board c.part y.1.bit parts.2 in
           by_entry device (device_of board c.part device e) y.1 y.0 k.0 b.0 y.2 k.1 k.2 parts.1 b.1 b.2 x.0 x.1 (row.setting c) refl
 
-  -- while a row of a safe pass is in the latches, all described parts have EXTEST, and the controls that are on are a
-  -- safe setting
   pub safely_set : IsSafelySet board (pin_states chain)
   safely_set = inr (
     (λ k device e. let d = device_of board k device e in extest_is board t chain k d.part device h d.at_k d.kind_is),
     safe_within board (latched_setting board (pin_states chain)) row.setting set_within safe,
   )
 
-  -- a cell that controls no driver and drives no pin of an unguarded net has its safe value
   pub keeps_safe : KeepsSafeValues board (pin_states chain)
   keeps_safe k cell device v e extest below controls drives value =
       let d = device_of board k device e in
@@ -318,7 +312,7 @@ module _ (board : RawBoard) (row : TestRow) (safe : IsSafe board row.setting)
           by_bit None xb = refl
           by_bit (Some b) xb = by_place b xb (place_of (record { part = k; bit = b }) 0 board.nets) refl
 
--- no net is contested between two moments that show rows of one pass
+-- No two drivers of a net conflict between two moments at which only drivers of one safe setting are live.
 pub uncontested : (board : RawBoard) (setting : Enabling) → IsSafe board setting → (now next : List PinState) →
     ((n : ℕ) (net : Net) (i : ℕ) (p : NetPin) → slice_get board.nets n ≡ Some net
     → slice_get net.pins i ≡ Some p → live board now p ≡ true

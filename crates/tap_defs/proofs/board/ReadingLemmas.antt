@@ -36,7 +36,6 @@ any_is p (x ∷ xs) e = go (any_is p xs) (p x) refl e
     go ih true q h = (0, x, refl, q)
     go ih false q h = let r = ih h in (suc r.0, r.1, r.2, r.3)
 
--- if `reads_beside` holds, some pin at a place other than the driver's is a receiver
 pub beside : (board : RawBoard) (driver m : ℕ) (ps : List NetPin) → reads_beside board driver m ps ≡ true →
     (i : ℕ) × (p : NetPin) × (slice_get ps i ≡ Some p) × (receives board p ≡ true) × ((driver == (m + i)) ≡ false)
 beside board driver m [] e = cc e
@@ -56,7 +55,6 @@ beside board driver m (p ∷ ps) e = go (beside board driver (suc m) ps) (not (m
         let z : suc m + r.0 ≡ m + suc r.0 = omega arith in
         (suc r.0, r.1, r.2, r.3, subst (λ (x : ℕ). (driver == x) ≡ false) z r.4)
 
--- a receiver has a reading entry
 entry_of : (device : RawDevice) (b : ℕ) (o : Option PortBit) → receives_bit device b o ≡ true → list_any (reads_bit b) device.cells ≡ true
 entry_of device b None e = cc e
 entry_of device b (Some bit) e = (and_parts (may_receive bit.mode) (list_any (reads_bit b) device.cells) e).1
@@ -137,7 +135,6 @@ AllRead board =
     (part : Part) (device : RawDevice) (k : ℕ) → slice_get board.chain k ≡ Some part
     → part.kind ≡ Described device → IsRead device
 
--- an observed net has a compared cell
 pub compared : (board : RawBoard) (setting : Enabling) (n : ℕ) (net : Net) (d : ℕ) → AllRead board → NetRules board n net →
     observing_driver board setting net ≡ Some d → Compared board setting n net
 compared board setting n net d read rules observing =
@@ -146,7 +143,6 @@ compared board setting n net d read rules observing =
     (compared_by board setting n net d b.0 b.1 b.2 observing b.3
     (subst (λ (x : ℕ). (d == x) ≡ false) z b.4) read (rules.pins b.0 b.1 b.2)).0
 
--- each receiver of an observed net has a compared cell, except at the pin of the enabled driver
 pub compared_at : (board : RawBoard) (setting : Enabling) (n : ℕ) (net : Net) (d i : ℕ) (p : NetPin) → AllRead board →
     NetRules board n net → observing_driver board setting net ≡ Some d → slice_get net.pins i ≡ Some p → receives board p ≡ true →
     (d == i) ≡ false → (c : Compared board setting n net) × (c.place ≡ i)

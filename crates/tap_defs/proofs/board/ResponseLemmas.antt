@@ -1,4 +1,4 @@
--- Under any stuck nets and open pins, a compared cell captures the same bit in every run.
+-- Under stuck nets and open pins, a compared cell of a net that is in no short captures the same bit in every run.
 use Rattle.std.specs.Prelude.{unwrap_or}
 use Rattle.std.proofs.Common.{◌≡◌, None, refl, Option, Some, List, ◌∙◌, Bool, ℕ, ap, sym}
 use Rattle.board_defs.specs.declared.board.RawBoard.{RawBoard}
@@ -13,13 +13,14 @@ use Rattle.tap_defs.proofs.board.FeedingLemmas.{Carries, NetRules, pulled, drive
 use Rattle.tap_defs.proofs.board.InTestLemmas.{InTest, shifted_row}
 use Rattle.tap_defs.proofs.board.WrongLemmas.{Compared, captured_here}
 
--- the bit of a net that carries `v`: `v`, or, if its driver is open, its pull or otherwise the constant of the driver
+-- the bit of a net whose driver has the bit `v`: `v`, or, if the driver is open, the net's pull or otherwise the
+-- constant of the driver
 abbrev pub driven_bit : Option Bool → Option Bool → Bool → Bool
 driven_bit None pull v = v
 driven_bit (Some u) pull v = unwrap_or pull u
 
--- the bit of a compared cell: the constant of its own pin if it is open, else that of its net if it is stuck, else the
--- bit that the net's driver gives
+-- the bit that a compared cell captures: the constant of its own pin if that is open, else that of its net if it is
+-- stuck, else the bit that the net's driver gives
 abbrev pub response : FaultSet → ℕ → ℕ → ℕ → Option Bool → Bool → Bool
 response faults n driver place pull v =
     unwrap_or (faults.opened n place)
@@ -43,7 +44,6 @@ plain_is faults d n pull v f (pulled e p) =
     by_open None = refl
     by_open (Some u) = refl
 
--- if a net is in no short, each compared cell of the net captures the bit that `response` returns
 pub cell_responds : (board : RawBoard) (faults : FaultSet) (row : TestRow) → IsSafe board row.setting → (n : ℕ) (net : Net) →
     NetRules board n net → (d : ℕ) → observing_driver board row.setting net ≡ Some d → (c : Compared board row.setting n net) (v : Bool) →
     row.carried n ≡ Some v → faults.short n ≡ None →

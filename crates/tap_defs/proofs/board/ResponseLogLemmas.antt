@@ -1,5 +1,5 @@
--- Faults explain a log if and only if its rows have the bits that the cells capture, for each scan, while the row of the
--- scan before is in the latches.
+-- Faults explain a log if and only if its rows have the compared bits that the cells capture. The cells capture while
+-- the row of the previous scan is in the latches.
 use Rattle.std.proofs.Common.{◌≡◌, ◌↔◌, ℕ, zero, suc, Bool, true, false, cond, ◌⊎◌, inl, inr, List, [], ◌∷◌, ◌++◌, length, map, filter, Option, Some, None, refl, sym, ◌∙◌, ap, subst, arith}
 use Rattle.std.specs.Prelude.{slice_get, is_some, option_map, unwrap_or, count_by}
 use Rattle.std.specs.List.{AllByRecursion}
@@ -34,7 +34,6 @@ use Rattle.tap_defs.proofs.board.CaptureLemmas.{silent_compares, log_captured}
 use Rattle.tap_defs.proofs.board.LogLemmas.{rows_counted, length-row_bits}
 use Rattle.tap_defs.proofs.board.OneResponseLemmas.{one_response}
 
--- a scan without compared bits passes with any capture
 uncompared_passes : (bits : List ScanBit) (cap : List Bool) → scan_passes (uncompared bits) cap ≡ true
 uncompared_passes [] cap = refl
 uncompared_passes (b ∷ bits) [] = refl
@@ -75,7 +74,6 @@ agree_at_same : (o : Option Bool) (x y z : Bool) → AgreeAt o x z → AgreeAt o
 agree_at_same None x y z h k = tt
 agree_at_same (Some v) x y z h k = h ∙ sym k
 
--- two rows that agree with the same capture agree with each other, if the capture is as long as the scan
 agree_same : (bits : List ScanBit) (xs ys zs : List Bool) → length bits ≡ length zs
     → AgreeWhereCompared bits xs zs → AgreeWhereCompared bits ys zs → AgreeWhereCompared bits xs ys
 agree_same [] xs ys zs l h k = tt
@@ -175,7 +173,6 @@ module _ (board : RawBoard) (faults : FaultSet) where
   of_each (t ∷ cs) [] h = tt
   of_each (t ∷ cs) (r ∷ log) h = (h 0 t r refl refl, of_each cs log (λ x. h (suc x)))
 
--- whatever the visible states are, the board gives each part as many bits as it has boundary cells
 wiring_fits : (board : RawBoard) (faults : FaultSet) (states : List PinState) (choice : Choice)
     → FitsPins (board_wiring board faults states choice) board.chain
 wiring_fits board faults states choice k p device e d =
@@ -204,14 +201,11 @@ module _ (board : RawBoard) (rules : IsBoard board) (faults : FaultSet) (scans :
         (λ x scan logged e f choice. h x scan logged choice e f)));
   }
 
-  -- faults explain a log if and only if the log has the shape for the scans and its rows have the bits that are captured
-  -- under the faults
   pub explained_by_rows : (log : List (List Bool))
       → ExplainedBy board faults scans log
       ↔ (HasShape board scans log × IsCapturedBy board faults scans log)
   explained_by_rows log = (λ h. (h.shape, captured_rows log h), λ h. explained_rows log h.0 h.1)
 
-  -- a scan captures as many bits as it has
   captures_all : (t : RowScan) (choice : Choice) → length (joined (row_bits board t)) ≡ length (row_captured board faults t.before choice)
   captures_all t choice =
       length-joined (row_bits board t) (registers (board_wiring board faults (row_states board t.before) choice) board.chain)
@@ -227,7 +221,6 @@ module _ (board : RawBoard) (rules : IsBoard board) (faults : FaultSet) (scans :
         tdi = false;
       }
 
-  -- two logs that the faults explain agree wherever bits are compared
   pub logs_agree : (log other : List (List Bool)) → ExplainedBy board faults scans log
       → ExplainedBy board faults scans other → AgreeOn board scans log other
   logs_agree log other h k x scan logged second e f g =
@@ -235,7 +228,7 @@ module _ (board : RawBoard) (rules : IsBoard board) (faults : FaultSet) (scans :
       (row_captured board faults scan.before some_choice) (captures_all scan some_choice)
       (captured_rows log h x scan logged some_choice e f) (captured_rows other k x scan second some_choice e g)
 
-  -- if no open pin is on a shorted net, the faults explain some log
+  -- If no open pin is on a shorted net, the faults explain some log.
   module _ (is_set : IsFaultSet board faults) (no_open : NoOpenShorted faults)
       (safe : (x : ℕ) (scan : RowScan) → slice_get (compared_scans board scans) x ≡ Some scan
       → IsSafe board scan.before.setting) where
@@ -302,7 +295,7 @@ kept_each {A} test P (y ∷ xs) h j x e = by_test (kept_each test P xs (λ i. h 
     by_test ih true q (suc k) f = ih k x f
     by_test ih false q k f = ih k x f
 
--- each scan of a test compares the quiet row or a row with a safe setting
+-- Each scan of a test compares the quiet row or a row with a safe setting.
 module _ (board : RawBoard) (rows : List Ctl → ℕ → TestRow) (width : ℕ) where
   abbrev Before : RowScan → Type 0
   Before t = (t.before ≡ quiet_row) ⊎ IsSafe board t.before.setting

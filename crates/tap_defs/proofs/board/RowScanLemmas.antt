@@ -1,4 +1,4 @@
--- If one scan of a test is wrong, the whole text fails.
+-- Proof that a test fails if one of its scans is wrong.
 use Rattle.std.proofs.Common.{◌≡◌, ℕ, suc, ◌<◌, Bool, false, inl, inr, List, [], ◌∷◌, length, map, Option, Some, refl, sym, ◌∙◌, ap}
 use Rattle.std.specs.Prelude.{slice_get}
 use Rattle.board_defs.specs.declared.device.RawDevice.{RawDevice}
@@ -46,7 +46,7 @@ loaded_registers (n ∷ chain) (p ∷ ps) pins free e =
     hd ∙ loads_in_test n.logic p.kind (pins 0) (free 0) (length n.state.boundary))
     (loaded_registers chain ps (λ k. pins (suc k)) (λ k. free (suc k)) tl)
 
--- each described part has a bit for each of its boundary cells
+-- `pins k` has a bit for each boundary cell of part `k`, if that part is described
 abbrev pub FitsPins : (ℕ → List Bool) → List Part → Type 0
 FitsPins pins ps =
     (k : ℕ) (p : Part) (device : RawDevice) → slice_get ps k ≡ Some p → p.kind ≡ Described device
@@ -76,7 +76,7 @@ bits_fit board t k (p ∷ ps) pins q =
     one (Described device) h = length-filled device.boundary _ ∙ sym (h device refl)
     one (Bypass n) h = refl
 
--- the effect of a data scan that shifts a row of the test in, whichever bits the scan compares
+-- the effect of a data scan that shifts in a row of the test and may compare any bits
 pub record RowScanDone (board : RawBoard) (faults : FaultSet) (t : RowScan) (bits : List ScanBit)
     (free : Choice) (out : List Bool) (chain next : List ChainPart) : Type 0 where
   pub compares : run_passes (sdr_clocks bits) out
@@ -130,7 +130,6 @@ row_scan_by board faults t bits shifts free row chain h pos =
       };
     }
 
--- the effect of a data scan that shifts a row of the test in and compares the bits that the test compares
 pub row_scan_done : (board : RawBoard) (faults : FaultSet) (t : RowScan) (free : Choices)
     (row : List (List Bool)) (chain : List ChainPart) →
     InTest board row chain → 0 < length (joined (row_bits board t)) →
@@ -140,7 +139,6 @@ pub row_scan_done : (board : RawBoard) (faults : FaultSet) (t : RowScan) (free :
     (run (board_wiring board faults) (sdr_clocks bits) free chain)
 row_scan_done board faults t free row chain h pos = row_scan_by board faults t (joined (row_bits board t)) refl free row chain h pos
 
--- if at least one of the scans is wrong, the run of the scans fails
 pub fails_by : (board : RawBoard) (faults : FaultSet) → ((t : RowScan) → 0 < length (joined (row_bits board t))) →
     (row : List (List Bool)) (ts : List RowScan) (free : Choices) (chain : List ChainPart) → InTest board row chain →
     SomeWrong board faults row ts →

@@ -1,4 +1,5 @@
--- Runs of the test of a board with two wires, with and without faults; and wrong tests, which the definitions refuse.
+-- Runs of the test of a board with two wires, with and without faults. Some wrong texts are shown not to be tests of
+-- this board.
 use Rattle.std.proofs.Common.{◌≡◌, Bool, true, false, List, [], ◌∷◌, ◌++◌, map, take, refl}
 use Rattle.std.proofs.lemmas.Bool.{both_ways}
 use Rattle.board_defs.specs.declared.fault.Kind.TheVariants.{And}
@@ -21,7 +22,7 @@ use Rattle.tap_defs.proofs.chain.SampleTexts.{on, off, read, sdr, two_nets_scans
 use Rattle.tap_defs.proofs.chain.SampleRun.{choices}
 use Rattle.tap_defs.proofs.board.SampleBoards.{drv, rcv, pin, net, board, wires}
 
--- a state of the board's chain in which the two parts are in different TAP states
+-- a state of the board's chain: the parts are in different TAP states
 abbrev driving : PartState
 driving =
     record {
@@ -62,7 +63,7 @@ start = record {
   );
 }
 
--- whether these scans pass in the run from this state with these choices
+-- true if these scans pass in the run from this state with these choices
 abbrev run_of : FaultSet → List Scan → Bool
 run_of faults scans = run_passes (test_clocks scans) (tdos (board_wiring wires faults) (test_clocks scans) choices chain)
 
@@ -113,21 +114,21 @@ short_other : explains_in_run (Short 0 1 And) (row on off ∷ row off on ∷ [])
 unfolding tdos
 short_other = refl
 
--- without its masks, the test does not find a stuck net
+-- without its masks, the test does not detect a stuck net
 masks_are_needed : FailOnBoard wires (set_of (StuckNet 0 off))
     (test_clocks (map (λ (s : Scan). record s { bits = uncompared s.bits }) two_nets_scans)) → ⊥
 unfolding tdos
 masks_are_needed fails = both_ways _ (fails chain choices start) refl
 
--- with the codes 0 and 1, the test does not find a stuck net either
+-- with the codes 0 and 1, the test does not detect a stuck net either
 codes_from_one : FailOnBoard wires (set_of (StuckNet 0 off)) (test_clocks (take 3 two_nets_scans
     ++ sdr (sent off ∷ sent off ∷ sent off ∷ sent on ∷ []) ∷ sdr (read off off ∷ read off on ∷ sent off ∷ sent off ∷ [])
     ∷ sdr (read off off ∷ read off off ∷ sent off ∷ sent off ∷ []) ∷ [])) → ⊥
 unfolding tdos
 codes_from_one fails = both_ways _ (fails chain choices start) refl
 
--- a test with the parts in the wrong order does not pass, and neither does a test that also compares the cell of an
--- output
+-- a test for the parts in the other order does not pass on this board, and neither does a test that also compares the
+-- cell of an output
 parts_in_order : PassOnBoard wires no_faults
     (test_clocks
     (svf_scans

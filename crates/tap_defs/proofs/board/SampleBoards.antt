@@ -17,7 +17,7 @@ use Rattle.board_defs.specs.declared.board.NetPin.{NetPin}
 use Rattle.board_defs.specs.declared.board.Net.{Net}
 use Rattle.board_defs.specs.declared.board.RawBoard.{RawBoard}
 
--- a port bit of a device; the four port bits of the test access port (`taps`) come first
+-- a port bit of a device; the four port bits of the test access port (`taps`) have the numbers 0 to 3
 abbrev pub port_bit : ℕ → Option ℕ → Mode → List ℕ → Bool → PortBit
 port_bit port index mode pin tap = record { port = port; index = index; mode = mode; pin = Some pin; tap = tap; compliance = false }
 
@@ -36,7 +36,7 @@ one_bit mode = port_bit 4 None mode (codes "1") false ∷ []
 abbrev pub entry : ℕ → Role → ℕ → Option Control → Cell
 entry num role bit ctl = record { num = num; role = role; bit = Some bit; safe = Any; ctl = ctl }
 
--- a control cell with safe value 1, and the control of a driver that this cell disables at 1
+-- a control cell with safe value 1, and the control of a driver that this cell disables with a 1
 abbrev pub control : ℕ → Cell
 control num = record { num = num; role = ControlRole; bit = None; safe = One; ctl = None }
 
@@ -58,8 +58,8 @@ device bits cells boundary = record {
   cells = cells;
 }
 
--- devices: two outputs that are always on (`drv`); the same in the 2001 edition, with the PRELOAD code 00 and the EXTEST
--- code 01 (`drv1`); two inputs (`rcv`); one input (`rcv1`)
+-- Devices: `drv` has two outputs that are always on. `drv1` is `drv` in the 2001 edition, with the PRELOAD code 00 and
+-- the EXTEST code 01. `rcv` has two inputs, and `rcv1` has one.
 abbrev pub drv : RawDevice
 drv = device (two_bits Outward) (entry 0 Output2 4 None ∷ entry 1 Output2 5 None ∷ []) 2
 
@@ -72,7 +72,7 @@ rcv = device (two_bits Inward) (entry 0 Input 4 None ∷ entry 1 Input 5 None �
 abbrev pub rcv1 : RawDevice
 rcv1 = device (one_bit Inward) (entry 0 Input 4 None ∷ []) 1
 
--- devices: a three-state output (`ts`), and an output that drives only low and is enabled by its own cell (`od`)
+-- devices: a three-state output (`ts`), and an output that drives only 0 and is controlled by its own cell (`od`)
 abbrev pub ts : RawDevice
 ts = device (one_bit Outward) (entry 0 Output3 4 (by 1) ∷ control 1 ∷ []) 2
 
@@ -134,7 +134,7 @@ buffers = board (Described buf2 ∷ Described buf2 ∷ []) (
     ∷ record { name = codes "VCC"; supply = true; pull = None; pins = pin 0 6 ∷ pin 1 6 ∷ foreign ∷ [] }
     ∷ net (pin_at_bit 0 2 ∷ pin_at_bit 1 2 ∷ foreign ∷ []) ∷ [])
 
--- a net that is pulled up, with a driver that drives only low
+-- a net that is pulled up, with a driver that drives only 0
 abbrev pub pulled_up : RawBoard
 pulled_up = board (Described od ∷ Described rcv1 ∷ []) (pulled (Some true) (pin 0 0 ∷ pin 1 0 ∷ []) ∷ [])
 

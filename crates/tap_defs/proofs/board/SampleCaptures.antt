@@ -1,4 +1,4 @@
--- Samples of live drivers, of how nets are driven, of shorts of every kind, and of what each kind of cell captures.
+-- Samples of live drivers, of what drives a net, of shorts of every kind, and of what each kind of cell captures.
 use Rattle.std.proofs.Common.{◌≡◌, ℕ, ◌==◌, Bool, true, false, ◌&&◌, List, [], ◌∷◌, map, take, Option, Some, None, refl}
 use Rattle.std.specs.Prelude.{codes, cond, nat_lt}
 use Rattle.std.specs.List.{enumerate_from}
@@ -23,15 +23,16 @@ shows instruction latches = record { current = instruction; latches = latches }
 abbrev under_test : List Bool → PinState
 under_test latches = shows Extest latches
 
--- drivers: a three-state driver, a driver that is always on, a driver that its own cell disables at 1, and a driver that a control
--- disables at 0
+-- devices: a three-state driver, a driver that is always on, a driver that its own cell disables with a 1, and a driver
+-- that a control cell disables with a 0
 abbrev ts0 : RawDevice
 ts0 = device (one_bit Outward) (entry 0 Output3 4 (Some (record { cell = 1; disable = false })) ∷ control 1 ∷ []) 2
 
 abbrev drivers : RawBoard
 drivers = board (Described ts ∷ Described drv ∷ Described od ∷ Described ts0 ∷ []) []
 
--- for each of the four parts, whether its driver is live if cell 0 has the first of these latches and cell 1 the second
+-- for each of the four parts: true if its driver is live while cell 0 has the latch `first` and cell 1 the latch
+-- `second`
 abbrev live_of : Instruction → Bool → Bool → List Bool
 live_of instruction first second =
     let states : List PinState = map (λ latches. shows instruction latches)
@@ -39,7 +40,7 @@ live_of instruction first second =
     in
     map (λ k. live drivers states (pin k 0)) (0 ∷ 1 ∷ 2 ∷ 3 ∷ [])
 
--- a driver is live if its control differs from the disable value, whatever the driver's bit is
+-- a driver is live if the latch of its control differs from the disable value, whatever the driver's bit is
 live_low : live_of Extest off off ≡ true ∷ true ∷ true ∷ false ∷ []
 live_low = refl
 
@@ -55,8 +56,8 @@ live_under_other : map (λ i. live_of i off off) (Sample ∷ Bypass ∷ Idcode �
     (Sample ∷ Bypass ∷ Idcode ∷ Other ∷ [])
 live_under_other = refl
 
--- the visible states of two three-state drivers and a receiver on one net, with these latches of the drivers' controls, and
--- how the net is then driven
+-- The visible states of two three-state drivers and a receiver on one net. `first` and `second` are the latches of the
+-- drivers' control cells.
 abbrev states_of : Bool → Bool → Instruction → List PinState
 states_of first second receiver = under_test (on ∷ first ∷ []) ∷ under_test (off ∷ second ∷ []) ∷ shows receiver (off ∷ []) ∷ []
 
@@ -75,8 +76,8 @@ second_drives = refl
 two_drive : fed_by [] off off Extest ≡ Contended
 two_drive = refl
 
--- If a receiver's part has another instruction, or a pin guards the net, nothing is known of the net. A pin of an inert part changes
--- nothing.
+-- If a receiver's part has another instruction, or a pin guards the net, the model does not say what drives the net. A
+-- pin of an inert part changes nothing.
 receiver_bypassed : fed_by [] off on Bypass ≡ Unruled
 receiver_bypassed = refl
 
@@ -95,7 +96,7 @@ beside_inert = refl
 on_supply : feeding bus (states_of off on Extest) (record (net (pin 0 0 ∷ pin 2 0 ∷ [])) { supply = true }) ≡ Unruled
 on_supply = refl
 
--- the given faults and one more, an open pin or a stuck net; and a short of the first `count` nets
+-- the given faults with one more, which is an open pin or a stuck net; and a short of the first `count` nets
 abbrev opened : ℕ → ℕ → Bool → FaultSet → FaultSet
 opened net place constant faults = record faults { opened = λ n i. cond ((n == net) && (i == place)) (Some constant) (faults.opened n i) }
 
@@ -105,7 +106,7 @@ stuck net constant faults = record faults { stuck = λ n. cond (n == net) (Some 
 abbrev shorted : ℕ → ShortKind → FaultSet
 shorted count kind = record no_faults { short = λ n. cond (nat_lt n count) (Some 0) None; kind = λ k. kind }
 
--- the bits of the nets, if `short` is the bit of a short that nothing decides
+-- the bits of all nets; `short` is the bit of a short that nothing decides
 abbrev net_bits : Bool → RawBoard → FaultSet → List PinState → List (Option Bool)
 net_bits short b faults s = map (λ net. net_bit b faults s (λ k. short) net.0 net.1) (enumerate_from 0 b.nets)
 
@@ -156,7 +157,7 @@ abbrev three : Option Bool → Option Bool → Option Bool → RawBoard
 three first second third = board (Described ts ∷ Described ts ∷ Described ts ∷ Described rcv ∷ Described rcv ∷ []) (
     pulled first (pin 0 0 ∷ pin 3 0 ∷ []) ∷ pulled second (pin 1 0 ∷ pin 3 1 ∷ []) ∷ pulled third (pin 2 0 ∷ pin 4 0 ∷ []) ∷ [])
 
--- the visible state of a driver that drives this bit, or that drives nothing
+-- the visible state of a part whose driver drives this bit, or drives nothing
 abbrev giving : Option Bool → PinState
 giving None = under_test (off ∷ on ∷ [])
 giving (Some bit) = under_test (bit ∷ off ∷ [])
@@ -164,7 +165,7 @@ giving (Some bit) = under_test (bit ∷ off ∷ [])
 abbrev three_give : Option Bool → Option Bool → Option Bool → List PinState
 three_give first second third = giving first ∷ giving second ∷ giving third ∷ under_test (off ∷ off ∷ []) ∷ under_test (off ∷ off ∷ []) ∷ []
 
--- four shorts of the first two nets (And, Or, the first dominant, and the second dominant), and the bits of the two nets under each
+-- the four kinds of a short of the first two nets: And, Or, the first net dominant, and the second net dominant
 abbrev kinds : List ShortKind
 kinds = And ∷ Or ∷ Dominant 0 ∷ Dominant 1 ∷ []
 
@@ -175,7 +176,7 @@ pair_by short pull other first second =
 abbrev pair : Option Bool → Option Bool → Option Bool → Option Bool → List (List (Option Bool))
 pair pull other first second = pair_by off pull other first second
 
--- the expected bits of both nets under each of these four shorts
+-- the expected bits of both nets under each of these four kinds
 abbrev read : Bool → Bool → Bool → Bool → List (List (Option Bool))
 read and or first second = map (λ bit. Some bit ∷ Some bit ∷ []) (and ∷ or ∷ first ∷ second ∷ [])
 
@@ -188,7 +189,7 @@ low_and_high = refl
 both_high : pair (Some off) (Some off) (Some on) (Some on) ≡ read on on on on
 both_high = refl
 
--- a bit to which a net is driven takes precedence over pulls, even over the pull of the dominant net
+-- A bit to which a net is driven takes precedence over pulls, even over the pull of the dominant net.
 driven_and_held : pair None (Some off) (Some on) None ≡ read on on on on
 driven_and_held = refl
 
@@ -209,7 +210,8 @@ one_pull = refl
 nothing_decides : map (λ bit. pair_by bit None None None None) (off ∷ on ∷ []) ≡ read off off off off ∷ read on on on on ∷ []
 nothing_decides = refl
 
--- three shorted nets: if the dominant net is not driven, the bit of the short is the And of the bits of the other nets, driven or pulled
+-- Three shorted nets. If the dominant net is not driven, the bit of the short is the And of the bits of the other nets,
+-- driven or pulled.
 abbrev all_three : ShortKind → RawBoard → Option Bool → Option Bool → Option Bool → List (Option Bool)
 all_three kind b first second third = net_bits on b (shorted 3 kind) (three_give first second third)
 
@@ -254,7 +256,8 @@ open_short_free : map
     (Some off ∷ Some off ∷ None ∷ []) ∷ (Some on ∷ Some on ∷ None ∷ []) ∷ []
 open_short_free = refl
 
--- the bit of a short is free if one of its nets is not ruled or has two live drivers, whatever bits drive the other nets
+-- The bit of a short is free if one of its nets is not ruled or has two live drivers, whatever the other nets are
+-- driven to.
 abbrev one_unruled : Bool → List (Option Bool)
 one_unruled bit =
     net_bits bit (three None None None) (record (shorted 3 Or) { short = λ n. cond (n == 1) None (Some 0) })
@@ -279,8 +282,8 @@ captures b faults s k free =
 abbrev captures_by : RawBoard → FaultSet → List PinState → ℕ → List (List Bool)
 captures_by b faults s k = map (captures b faults s k) (off ∷ on ∷ [])
 
--- A bidirectional pin with one BIDIR cell, and one with an output cell and an input cell. Each reads its net only while it does not
--- drive.
+-- A bidirectional pin with one BIDIR cell, and one with an output cell and an input cell. Each of them reads its net
+-- only while it does not drive.
 abbrev bi : RawDevice
 bi = device (one_bit Both) (entry 0 Bidir 4 (by 1) ∷ control 1 ∷ []) 2
 
@@ -358,7 +361,7 @@ guarded_free = refl
 no_cells : captures guarded no_faults guarded_states 1 on ≡ []
 no_cells = refl
 
--- not fault sets: a stuck net in a short, a short of one net, and a short whose dominant net is not in it
+-- These are not fault sets: a stuck net in a short, a short of one net, and a short whose dominant net is not in it.
 stuck_and_shorted : IsFaultSet (three None None None) (stuck 0 on (shorted 2 And)) → ⊥
 stuck_and_shorted is_set = let apart_is = is_set.disjoint 0 on refl in cc apart_is
 

@@ -1,4 +1,4 @@
--- Samples of the cells that must keep their safe values, and of wrong tests that break each condition of quiet texts.
+-- Samples of the cells that must keep their safe values, and of wrong tests: each breaks a condition of quiet texts.
 use Rattle.std.proofs.Common.{◌≡◌, ℕ, zero, suc, ◌==◌, Bool, true, false, not, List, [], ◌∷◌, ◌++◌, map, take, drop, Option, Some, None, refl, inl, inr, arith}
 use Rattle.std.specs.Prelude.{codes, cond}
 use Rattle.std.specs.List.{list_any, enumerate_from}
@@ -62,7 +62,8 @@ safe_bits : map (safe_bit keeper) cells ≡
     Some on ∷ Some on ∷ Some off ∷ Some on ∷ Some on ∷ Some on ∷ Some on ∷ None ∷ Some on ∷ Some on ∷ Some on ∷ []
 safe_bits = refl
 
--- the visible state in which the latch of `cell` has the opposite of the cell's safe value, and each other latch has its cell's safe value
+-- The visible state in which the latch of `cell` has the opposite of the cell's safe value. Every other latch has the
+-- safe value of its cell.
 abbrev but : ℕ → List PinState
 but cell = record {
   current = Extest;
@@ -90,8 +91,8 @@ driver_of_guarded keeps = let low : false ≡ true = keeps 0 9 keeper true refl 
 driver_of_no_net : KeepsSafeValues keeping (but 10) → ⊥
 driver_of_no_net keeps = let low : false ≡ true = keeps 0 10 keeper true refl refl (omega arith) refl refl refl in cc low
 
--- for each cell, whether it is a control that is on, with this bit in each latch: cell 5 if the bit is 0, and never cell 8,
--- whose driver has no pin
+-- For each cell, true if the setting that the latches show contains it, while every latch has this bit. Cell 5 is in
+-- the setting if the bit is 0. Cell 8 never is, because its driver has no pin.
 abbrev latched : Bool → List Bool
 latched bit =
     map
@@ -122,7 +123,7 @@ half_unsafe : IsSafelySet wire half_in_test → ⊥
 half_unsafe (inl none) = let z : true ≡ false = none 0 inner refl in cc z
 half_unsafe (inr all) = let z : false ≡ true = all.0 1 rcv1 refl in cc z
 
--- a controlled driver that is on while its net is dark
+-- a board with a controlled driver on a dark net, which something that no setting controls may drive
 abbrev dark : RawBoard
 dark = board (Described ts ∷ Described rcv1 ∷ []) (net (pin 0 0 ∷ pin 1 0 ∷ foreign ∷ []) ∷ [])
 
@@ -133,7 +134,7 @@ dark_unsafe : IsSafelySet dark dark_on → ⊥
 dark_unsafe (inl none) = let z : true ≡ false = none 0 ts refl in cc z
 dark_unsafe (inr all) = let z : true ≡ false = all.1.free 0 _ 0 (pin 0 0) (record { part = 0; cell = 1 }) refl refl refl refl in cc z
 
--- a one-sided driver that drives, since its net is not pulled
+-- a board with a one-sided driver that drives a net without a pull
 abbrev unpulled : RawBoard
 unpulled = board (Described od ∷ Described rcv1 ∷ []) (net (pin 0 0 ∷ pin 1 0 ∷ []) ∷ [])
 
@@ -180,7 +181,7 @@ later_moments b first clocks =
     shown (board_wiring b no_faults) (drop 5 clocks) (choices_after (take 5 clocks) choices)
     (run (board_wiring b no_faults) (take 5 clocks) choices (two_parts first))
 
--- a test that breaks (a) in the update of its third scan, since one part then still has SAMPLE
+-- a test that breaks condition (a) in the update of its third scan, because one part then still has SAMPLE
 abbrev one_left : List Clock
 one_left = test_clocks (take 2 (svf_scans wire) ++ instructs ((off ∷ off ∷ []) ∷ (off ∷ on ∷ []) ∷ []) ∷ [])
 
@@ -190,7 +191,7 @@ all_in_extest quiet =
     let moments = (quiet no_faults (two_parts inner) choices (no_set wire) wire_start).1 in
     half_unsafe (moment_at wire (after_reset wire inner one_left) (later_moments wire inner one_left) moments 27 half_in_test refl).0
 
--- a test that breaks (a) in the update of its fourth scan, since it enables a driver on a dark net
+-- a test that breaks condition (a) in the update of its fourth scan, because it enables a driver on a dark net
 abbrev dark_driven : List Clock
 dark_driven = test_clocks (take 3 (svf_scans dark) ++ sdr (sent off ∷ sent off ∷ sent off ∷ []) ∷ [])
 
@@ -200,7 +201,8 @@ dark_nets_are_left quiet =
     let moments = (quiet no_faults (two_parts ts) choices (no_set dark) dark_start).1 in
     dark_unsafe (moment_at dark (after_reset dark ts dark_driven) (later_moments dark ts dark_driven) moments 35 dark_on refl).0
 
--- a test that breaks (c) in the update that makes EXTEST current, since it preloaded 0 into an internal cell with safe value 1
+-- a test that breaks condition (c) in the update that makes EXTEST current, because it preloaded 0 into an internal
+-- cell with safe value 1
 abbrev zeros_preloaded : List Clock
 zeros_preloaded = test_clocks (take 1 (svf_scans wire) ++ sdr (sent off ∷ sent off ∷ sent off ∷ []) ∷ take 1 (drop 2 (svf_scans wire)))
 

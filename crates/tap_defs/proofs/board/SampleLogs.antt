@@ -49,7 +49,8 @@ free bit =
       tdi = bit;
     }
 
--- with these free bits, each scan passes if it captures while the row of the scan before it is in the latches
+-- true if each scan passes with the captured bits, for this choice of the free bits; the cells capture while the row of
+-- the previous scan is in the latches
 abbrev captures_pass : RawBoard → FaultSet → Choice → TestRow → List RowScan → List Scan → Bool
 captures_pass board faults choice row [] scans = true
 captures_pass board faults choice row (t ∷ more) [] = true
@@ -62,7 +63,7 @@ captures board log single bit =
     let scans : List RowScan = svf_row_scans board in
     captures_pass board (set_of single) (free bit) quiet_row scans (scans_by_log (map (scan_of_row board) scans) log)
 
--- the single faults that explain a log, in order
+-- the single faults that explain a log, in order, found by running the captures
 abbrev explaining : RawBoard → List (List Bool) → List Single
 explaining board log = filter (λ single. captures board log single off && captures board log single on) (singles board)
 
@@ -97,15 +98,15 @@ named_part name device = record { name = name; kind = Described device }
 abbrev named : List ℕ → Net → Net
 named name net = record net { name = name }
 
--- a pin with names made from its numbers; its port bit counts from those after the test access port
+-- a pin whose names are made from its numbers; the four port bits of the test access port are not counted
 abbrev pin_of : ℕ → ℕ → NetPin
 pin_of part bit = record (pin part bit) { part = 85 ∷ (49 + part) ∷ []; pin = (49 + bit) ∷ [] }
 
 abbrev open_pin : ℕ → ℕ → Bool → Single
 open_pin net place value = OpenPin (record { net = net; place = place }) value
 
--- A board with two nets from a driver to a receiver, which have the codes 1 and 2. A log has two rows, in which the first two
--- bits are those of the nets.
+-- A board with two nets, each from a driver to a receiver. The nets have the codes 1 and 2. A log has two rows, and the
+-- first two bits of a row are those of the nets.
 abbrev two_nets : RawBoard
 two_nets = record {
   chain = named_part (codes "U1") drv ∷ named_part (codes "U2") rcv ∷ [];
@@ -142,8 +143,8 @@ ignored_is : explaining two_nets ((off ∷ off ∷ on ∷ on ∷ []) ∷ (off �
     ≡ StuckNet 0 off ∷ open_pin 0 0 off ∷ open_pin 0 1 off ∷ []
 ignored_is = refl
 
--- the shorts that explain a log in which both nets have the same bit in each row: their And, their Or, the first's bit or the
--- second's
+-- The shorts that explain a log in which both nets have the same bit in each row. This bit is the And or the Or of the
+-- two nets' bits, the first net's bit, or the second net's bit.
 and_is : explaining two_nets (row off off ∷ row off off ∷ []) ≡ Short 0 1 And ∷ []
 and_is = refl
 
@@ -168,7 +169,7 @@ no_single_is = refl
 no_single_cells : predicted two_nets (row on off ∷ row on off ∷ []) ≡ []
 no_single_cells = refl
 
--- by the definition, the first net stuck at 0 explains a log in which it has 0 in both rows
+-- by definition, the fault "first net stuck at 0" explains a log in which the first net has 0 in both rows
 explained : Explains two_nets (StuckNet 0 off) (row off off ∷ row off on ∷ [])
 explained = record {
   shape =
@@ -196,8 +197,8 @@ is_expected = record {
 is_unexpected : IsExpected two_nets (svf_row_scans two_nets) (row on off ∷ row on on ∷ []) → ⊥
 is_unexpected h = both_ways _ refl h.bits
 
--- Logs of another shape, with a row too few, a row too many or a row too short. No fault explains them, and they are not
--- expected.
+-- Logs that do not have the shape of a log of this test: with a row too few, a row too many, or a row that is too
+-- short. No fault explains them, and they are not expected.
 abbrev NoLog : List (List Bool) → Type 0
 NoLog log = HasShape two_nets (svf_row_scans two_nets) log → ⊥
 
@@ -216,7 +217,7 @@ short_row h = let z : ◌≡◌ {A = ℕ} 3 4 = h.bits 1 [] (omega arith) in abs
 unexplained : (faults : FaultSet) → ExplainedBy two_nets faults (svf_row_scans two_nets) [] → ⊥
 unexplained faults h = no_rows h.shape
 
--- a net that is pulled up, with a driver that drives only low: if the driver is open, the net has its pull
+-- A net that is pulled up, with a driver that drives only 0. If the driver is open, the net has its pull.
 abbrev pulled_net : RawBoard
 pulled_net = record {
   chain = named_part (codes "U1") od ∷ named_part (codes "U2") rcv1 ∷ [];
@@ -266,7 +267,7 @@ bus = record {
       ∷ named (codes "B") (pulled None (pin_of 0 3 ∷ pin_of 2 0 ∷ [])) ∷ [];
 }
 
--- a row of the first pass, with the bits of nets A and X, and a row of the second pass, with the bits of X and B
+-- a row of a log in the first pass, with the bits of nets A and X, and one in the second pass, with the bits of X and B
 abbrev with_a : Bool → Bool → List Bool
 with_a a x = off ∷ off ∷ a ∷ x ∷ off ∷ off ∷ off ∷ off ∷ off ∷ off ∷ []
 
@@ -281,7 +282,8 @@ a_dominates = with_a on on ∷ with_a off off ∷ with_a off off ∷ with_b off 
 abbrev x_dominates : List (List Bool)
 x_dominates = with_a off off ∷ with_a on on ∷ with_a off off ∷ with_b off on ∷ with_b on on ∷ with_b off off ∷ []
 
--- If X and B are shorted, the first pass is as expected. B has a 1 wherever X has one, so their Or is B.
+-- If X and B are shorted, the first pass is as expected. In the second pass B has a 1 wherever X has one, so their Or
+-- is the bit of B.
 abbrev b_dominates : List (List Bool)
 b_dominates = with_a on off ∷ with_a off on ∷ with_a off off ∷ with_b on on ∷ with_b on on ∷ with_b off off ∷ []
 

@@ -36,26 +36,27 @@ drives bit = record { current = Extest; latches = bit ∷ off ∷ [] }
 abbrev silent : PinState
 silent = record { current = Extest; latches = off ∷ on ∷ [] }
 
--- the visible states of all parts, with this instruction in the receiver
+-- the visible states of all parts; the receiver has this instruction
 abbrev under : Instruction → PinState → PinState → List PinState
 under instruction first second = first ∷ second ∷ record { current = instruction; latches = off ∷ off ∷ [] } ∷ []
 
 abbrev states : PinState → PinState → List PinState
 states first second = under Extest first second
 
--- the bits of the nets, if 1 is the bit of a short that nothing decides
+-- the bits of all nets; a short that nothing decides has the bit 1
 abbrev net_bits : RawBoard → FaultSet → List PinState → List (Option Bool)
 net_bits b faults s = map (λ net. net_bit b faults s (λ k. on) net.0 net.1) (enumerate_from 0 b.nets)
 
--- a net with exactly one live driver is fed
+-- a net with exactly one live driver is fed the driver's bit
 fed : net_bits plain no_faults (states (drives on) (drives off)) ≡ Some on ∷ Some off ∷ []
 fed = refl
 
--- a net without a live driver is held at its pull, and is free if it has none
+-- a net without a live driver is held at its pull; without a pull, its bit is free
 held : net_bits (apart None (Some on)) no_faults (states silent silent) ≡ None ∷ Some on ∷ []
 held = refl
 
--- a net is free if it has two live drivers, if one of its parts does not have EXTEST, or if it is guarded
+-- the bit of a net is free if the net has two live drivers, if one of its parts does not have EXTEST, or if it is
+-- guarded
 contended : net_bits shared no_faults (states (drives on) (drives on)) ≡ None ∷ []
 contended = refl
 
@@ -65,8 +66,8 @@ not_all_in_extest = refl
 guarded : net_bits dark no_faults (states (drives on) silent) ≡ None ∷ []
 guarded = refl
 
--- If the only live driver is open, the net has its pull, else the driver's constant. An open driver that is off changes
--- nothing.
+-- If the only live driver is open, the net has its pull, or the driver's constant if it has no pull. An open driver
+-- that is not live changes nothing.
 open_driver : net_bits plain (set_of (OpenPin (record { net = 0; place = 0 }) off)) (states (drives on) silent) ≡ Some off ∷ None ∷ []
 open_driver = refl
 

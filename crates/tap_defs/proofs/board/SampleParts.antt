@@ -25,7 +25,7 @@ identified = test_logic (Described with_idcode)
 abbrev unknown : TestLogic
 unknown = test_logic (WithoutDescription 2)
 
--- the free bits of a part, all of which are this bit
+-- the free bits of a part, all with this value
 abbrev free : Bool → FreeBits
 free bit = record { ir = λ k. bit; cells = λ k. bit; latches = λ k. bit; tdo = bit; other = bit }
 
@@ -41,7 +41,7 @@ part tap instruction = record {
   latches = off ∷ on ∷ [];
 }
 
--- the part after a cycle with this TMS and TDI, in which its pins give the boundary cells 0 and 1
+-- the part after a cycle with this TMS and TDI; its pins give the boundary cells 0 and 1
 abbrev after : TestLogic → Bool → Bool → Bool → PartState → PartState
 after logic bit tms tdi s = part_after logic (off ∷ on ∷ []) (free bit) tms tdi s
 
@@ -154,7 +154,7 @@ update_other : map (λ bit. updated bit Other) (off ∷ on ∷ []) ≡
     record (part UpdateDR Other) { latches = off ∷ off ∷ [] } ∷ record (part UpdateDR Other) { latches = on ∷ on ∷ [] } ∷ []
 update_other = refl
 
--- all other states change only the TAP state, and TDO is free in them
+-- all other states change only the TAP state, and TDO is a free bit in them
 abbrev calm : List TapState
 calm = RunTestIdle ∷ SelectDR ∷ Exit1DR ∷ PauseDR ∷ Exit2DR ∷ UpdateDR ∷ SelectIR ∷ Exit1IR ∷ PauseIR ∷ Exit2IR ∷ UpdateIR ∷ []
 
@@ -171,7 +171,8 @@ silent_tdo = refl
 silent_tdo_low : map (λ tap. part_tdo (free off) on (part tap Extest)) silent ≡ map (λ tap. off) silent
 silent_tdo_low = refl
 
--- The lengths and codes of a described part come from its description. Of any other part only the instruction length is known.
+-- The lengths and codes of a described part come from its description. For any other part, only the instruction length
+-- is known.
 described_logic : identified ≡
     record {
       ir_length = 2;

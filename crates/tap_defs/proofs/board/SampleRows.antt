@@ -13,7 +13,7 @@ use Rattle.tap_defs.proofs.chain.SampleTexts.{on, off}
 use Rattle.tap_defs.proofs.board.SampleBoards.{one_bit, entry, by, control, device, ts, drv, rcv, pin, foreign, net, board}
 use Rattle.tap_defs.proofs.board.SampleKeeping.{keeper, keeping, cells}
 
--- the code widths for 0 to 7 nets, at which no code of a net has only zeros or only ones
+-- the code widths for 0 to 7 nets
 widths : map code_width (range_with_len 0 8) ≡ 1 ∷ 2 ∷ 2 ∷ 3 ∷ 3 ∷ 3 ∷ 3 ∷ 4 ∷ []
 widths = refl
 
@@ -24,7 +24,7 @@ more_widths = refl
 bits_of_code : map (code_bit 13) (0 ∷ 1 ∷ 2 ∷ 3 ∷ 4 ∷ []) ≡ on ∷ off ∷ on ∷ on ∷ off ∷ []
 bits_of_code = refl
 
--- the setting with these controls
+-- the setting that contains these controls
 abbrev set : List Ctl → Enabling
 set controls = holds controls
 
@@ -45,7 +45,7 @@ observer = device (one_bit Inward) (entry 0 ObserveOnly 4 None ∷ []) 1
 abbrev clocked : RawDevice
 clocked = device (one_bit Inward) (entry 0 Clock 4 None ∷ []) 1
 
--- A board. Net 0 is dark, nets 1 and 2 are observed, and net 3 has no receiver except its driver.
+-- A board. Net 0 is dark, and nets 1 and 2 are observed. The only receiver on net 3 is its driver.
 abbrev mixed : RawBoard
 mixed = board
     (Described bi ∷ Described ts ∷ Described ts0 ∷ Described rcv ∷ Described observer ∷ Described
@@ -82,11 +82,12 @@ held b setting part d list = map (steady_bit b setting part d) list
 kept_quiet : held keeping (set []) 0 keeper cells ≡ on ∷ on ∷ off ∷ on ∷ on ∷ on ∷ on ∷ off ∷ on ∷ on ∷ on ∷ []
 kept_quiet = refl
 
--- A setting changes only cells that control drivers. Cell 8 controls the driver of a port without a pin, and keeps its safe value.
+-- A setting changes only cells that control drivers. Cell 8 controls the driver of a port without a pin, so it keeps
+-- its safe value.
 kept_set : held keeping (set (c 0 5 ∷ c 0 8 ∷ c 0 3 ∷ [])) 0 keeper cells ≡ on ∷ on ∷ off ∷ on ∷ on ∷ off ∷ on ∷ off ∷ on ∷ on ∷ on ∷ []
 kept_set = refl
 
--- the disable value takes precedence over the safe value, which is 1
+-- the disable value, which is 0 here, takes precedence over the safe value, which is 1
 disabled_at_0 : map (λ controls. steady_bit mixed (set controls) 2 ts0 1) ([] ∷ (c 2 1 ∷ []) ∷ []) ≡ off ∷ on ∷ []
 disabled_at_0 = refl
 
@@ -107,7 +108,8 @@ driver_of_1 = refl
 driver_of_2 : rows_of (c 1 1 ∷ c 2 1 ∷ []) 2 ts0 ≡ (off ∷ on ∷ []) ∷ (on ∷ on ∷ []) ∷ []
 driver_of_2 = refl
 
--- the bits of the quiet row are in the cells of a driver that is not enabled, of one whose net is not observed, and of one on a dark net
+-- A driver's cell has the values of the quiet row if the driver is not enabled, if its net is not observed, or if its
+-- net is dark.
 other_driver : rows_of (c 1 1 ∷ c 2 1 ∷ []) 0 bi ≡ (off ∷ on ∷ []) ∷ (off ∷ on ∷ []) ∷ []
 other_driver = refl
 
@@ -117,7 +119,8 @@ unobserved_driver = refl
 dark_driver : rows_of (c 1 1 ∷ []) 6 drv ≡ (off ∷ off ∷ []) ∷ (off ∷ off ∷ []) ∷ []
 dark_driver = refl
 
--- The expected bits in row 0. INPUT, CLOCK and BIDIR cells on an observed net have one, except those of the driver's own pin.
+-- The expected bits in row 0. The INPUT, CLOCK and BIDIR cells on an observed net have one, except at the pin of the
+-- enabled driver.
 abbrev expected : TestRow → ℕ → RawDevice → List (Option Bool)
 expected r part d = map (expect_bit mixed r part d) (range_with_len 0 d.boundary)
 

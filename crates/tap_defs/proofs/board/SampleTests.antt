@@ -7,7 +7,7 @@ use Rattle.tap_defs.specs.board.BoardScans.{board_text, walk_text}
 use Rattle.tap_defs.proofs.chain.SampleTexts.{sample_text, two_nets}
 use Rattle.tap_defs.proofs.board.SampleBoards.{wires, wires_2001, wires_round, bus, buffers, pulled_up, three_wires}
 
--- two nets have the codes 1 and 2
+-- the two nets have the codes 1 and 2
 wires_text : board_text wires ≡ two_nets
 unfolding svf_text digits
 wires_text = refl
@@ -41,7 +41,7 @@ buffers_text : board_text buffers ≡ sample_text (
 unfolding svf_text digits
 buffers_text = refl
 
--- the cell of a switching driver has the bit of the net, although it is a control
+-- the cell of a driver that its own cell controls has the bit of the net, although it is a control cell
 pulled_up_text : board_text pulled_up ≡ sample_text (
     codes "SIR 4 TDI (A) TDO (5) MASK (F);" ∷ codes "SDR 2 TDI (2);" ∷ codes "SIR 4 TDI (0) TDO (5) MASK (F);"
     ∷ codes "SDR 2 TDI (2);" ∷ codes "SDR 2 TDI (0) TDO (1) MASK (1);" ∷ codes "SDR 2 TDI (2) TDO (0) MASK (1);" ∷ [])

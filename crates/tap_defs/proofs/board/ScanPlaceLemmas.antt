@@ -1,4 +1,4 @@
--- The places of the scans of a test.
+-- The place of each scan in a test.
 use Rattle.std.proofs.Common.{◌≡◌, ℕ, zero, suc, ◌+◌, ◌*◌, ◌<◌, ◌≤◌, Bool, true, false, cond, List, [], ◌∷◌, ◌++◌, length, Option, Some, refl, sym, ◌∙◌, ap, arith, length-append}
 use Rattle.std.specs.Prelude.{nat_lt, slice_get, option_map}
 use Rattle.std.proofs.lemmas.List.{length-map}
@@ -37,7 +37,7 @@ rest_at (x ∷ xs) ys i (suc k) e = rest_at xs ys i k (omega (arith, e))
 abbrev placed : (ℕ → TestRow) → ℕ → ℕ → RowScan
 placed rows width k = record { now = row_now rows width k; before = row_before rows k }
 
--- of the scans from row `j` on, scan `i` is scan `j + i` of the pass
+-- Scan `i` of the scans that remain from row `j` on is scan `j + i` of the pass.
 pub pass_scan_at : (rows : ℕ → TestRow) (width more j i k : ℕ) (before : TestRow)
     → before ≡ row_before rows j → width ≡ j + more → k ≡ j + i →
     i ≤ more →

@@ -1,4 +1,5 @@
--- Under a single fault, each compared cell captures a bit that depends only on the row in the latches, whatever the free bits are.
+-- Under a single fault, each compared cell captures a bit that depends only on the row in the latches. The free bits do
+-- not change it.
 use Rattle.std.proofs.Common.{◌≡◌, ◌≢◌, ◌⊎◌, inl, inr, ℕ, zero, suc, ◌+◌, ◌<◌, ◌==◌, Bool, true, false, cond, not, ◌&&◌, ◌||◌, List, [], ◌∷◌, Option, Some, None, refl, sym, ◌∙◌, ap, subst, arith}
 use Rattle.std.specs.Prelude.{slice_get, unwrap_or, option_and_then}
 use Rattle.std.specs.List.{cons_option}
@@ -183,7 +184,7 @@ module _ (a b : ℕ) (less : a < b) (kind : Kind) (one two : Net) where
       step n net nets false (neither n (λ q. omega (arith, q, z)) (λ q. omega (arith, q, w)))
       ∙ two_after (suc n) i j nets e (omega (arith, z)) f (omega (arith, w))
 
-  -- the combined bit of one net of the short is the bit of this net, and two nets are combined by the kind of the short
+  -- A short of one net has the bit of this net. The bits of two nets are combined according to the kind of their short.
   alone : (k : Kind) (c : ℕ) (u : Bool) → combined (short_kind a b k) ((c, u) ∷ []) ≡ u
   alone And c u = and-true u
   alone Or c u = or-false u
@@ -245,7 +246,6 @@ module _ (a b : ℕ) (less : a < b) (kind : Kind) (one two : Net) where
       none_carries (driven e) = cc e
       none_carries (pulled e f) = cc f
 
--- if a setting observes a net by driver `d`, `d` is the net's first enabled driver
 first_driver : (board : RawBoard) (row : TestRow) (net : Net) (d : ℕ)
     → observing_driver board row.setting net ≡ Some d
     → first_enabled board row.setting 0 net.pins ≡ Some d
@@ -423,7 +423,6 @@ module _ (board : RawBoard) (rules : IsBoard board) (row : TestRow) (safe : IsSa
     value (OpenPin pin u) is_single = open_value pin u
     value (Short a b kind) is_single = short_value a b kind is_single
 
-  -- while the row is in the latches, a compared cell captures the bit that `single_bit` gives
   pub cell_value : (single : Single) → IsSingle board single → (part : ℕ) (device : RawDevice) (cell : ℕ) (place : Place) (v : Bool) →
       IsCompared board row part device cell place v → (choice : Choice) →
       captured_cell board (set_of single) (row_states board row) choice part device cell ≡ single_bit board single row place v

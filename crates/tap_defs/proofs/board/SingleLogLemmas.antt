@@ -1,5 +1,5 @@
--- A single fault explains a log if and only if each compared cell has the fault's bit in the log. A log is the expected one if and only
--- if each compared cell has its expected bit.
+-- A single fault explains a log if and only if each compared cell has in the log the bit that the fault gives it. A log
+-- is the expected one if and only if each compared cell has its expected bit.
 use Rattle.std.proofs.Common.{◌≡◌, ◌↔◌, ℕ, zero, suc, ◌*◌, Bool, true, false, List, [], ◌∷◌, ◌++◌, length, map, filter, Option, Some, None, refl, sym, ◌∙◌, ap, subst}
 use Rattle.std.specs.Prelude.{slice_get, unwrap_or, All}
 use Rattle.std.proofs.lemmas.Bool.{and_parts, and_from}
@@ -86,7 +86,6 @@ module _ (board : RawBoard) (rules : IsBoard board) (single : Single)
         λ h. by_rows.1 (h.0, captures h.1),
       )
 
--- a row that passes has the expected bits wherever the scan compares
 agree_expected : (bits : List ScanBit) (row : List Bool) → scan_passes bits row ≡ true → AgreeWhereCompared bits row (tdo_bits bits)
 agree_expected [] row e = tt
 agree_expected (b ∷ bits) [] e = tt
@@ -199,12 +198,9 @@ module _ (board : RawBoard) where
         (λ part device cell place expected c. h x scan logged part device cell place expected e f c
         ∙ sym (ap (λ (o : Option Bool). Some (unwrap_or o false)) c.expects)))))
 
-    -- a log is the expected one if and only if each compared cell has its expected bit
     pub expected_bits : IsExpected board scans log ↔ (HasShape board scans log × Expected)
     expected_bits = (λ h. (h.shape, expected_shows h), λ h. record { shape = h.0; bits = shows_expected h.1 })
 
--- a log has the shape of the logs of the passes if and only if it has `width` rows for each pass and each row has a bit for
--- each position of a data scan
 pub passes_shape : (board : RawBoard) (passes : List (List Ctl)) (width : ℕ)
     (log : List (List Bool)) → IsBoard board → ArePasses board passes →
     HasShape board (row_scans (code_row board passes) width passes) log

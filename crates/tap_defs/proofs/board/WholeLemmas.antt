@@ -1,4 +1,4 @@
--- The scans of a whole test pass on the board without faults, and fail under the fault sets that they detect.
+-- A whole test passes on the board without faults, and fails under the fault sets that it detects.
 use Rattle.std.specs.Prelude.{slice_get}
 use Rattle.std.proofs.Common.{◌≡◌, Bool, ◌∷◌, zero, List, refl, ℕ, true, [], suc, ◌++◌, Some, ◌∙◌, append_assoc, ap, sym, subst}
 use Rattle.board_defs.specs.declared.board.Ctl.{Ctl}
@@ -31,7 +31,7 @@ clocks-append board (x ∷ xs) ys =
     let first : List Clock = sdr_clocks (joined (row_bits board x)) in
     ap (λ (r : List Clock). first ++ r) (clocks-append board xs ys) ∙ sym (append_assoc first (row_clocks board xs) (row_clocks board ys))
 
--- while the row is in the latches, every bit that is compared with it is as expected
+-- every bit that is compared with this row is the expected one, while the row is in the latches
 abbrev pub IsGood : RawBoard → TestRow → Type 0
 IsGood board row =
     (now before : TestRow) (free : Choice) (chain : List ChainPart)
@@ -45,7 +45,7 @@ quiet_good board now before free chain h =
     quiet_compares board now
     (joined (registers (bits_at_pins (board_wiring board no_faults) free chain) board.chain))
 
--- the scans passed, and left the quiet row in the latches
+-- the run passed, and the quiet row is in the latches
 pub record Passed (board : RawBoard) (clocks : List Clock) (out : List Bool) (next : List ChainPart) : Type 0 where
   pub passes : run_passes clocks out ≡ true
   pub last : TestRow
@@ -154,7 +154,6 @@ module _ (board : RawBoard) (rules : IsBoard board) where
       (pass_all (rows p) (good 0 p refl) width 0 quiet_row before (quiet_good board) free chain h)
       (λ f m b k. pass_passes rows width ps (λ x. good (suc x)) b f m k)
 
-  -- the whole test passes on the board without faults, whatever bits the rows carry
   pub whole_passes : (rows : List Ctl → ℕ → TestRow) (width : ℕ) (passes : List (List Ctl)) →
       ((x : ℕ) (p : List Ctl) → slice_get passes x ≡ Some p → (j : ℕ) → IsSafe board (rows p j).setting) →
       PassOnBoard board no_faults (test_clocks (board_scans board (row_scans rows width passes)))
@@ -167,7 +166,6 @@ module _ (board : RawBoard) (rules : IsBoard board) where
       (entered board rules no_faults states free start)
       (in_test_after board rules no_faults states free start)).passes
 
-  -- under each nonempty observable fault set, some scan of the whole test fails
   pub whole_fails : (passes : List (List Ctl)) (width : ℕ) → IsPlan board passes width → (faults : FaultSet) → IsObservable board faults →
       IsNonempty faults → FailOnBoard board faults (test_clocks (board_scans board (row_scans (code_row board passes) width passes)))
   whole_fails passes width plan faults observable nonempty states free start =

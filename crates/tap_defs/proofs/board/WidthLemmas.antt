@@ -11,7 +11,6 @@ grows : (n : ℕ) → n + 2 ≤ 2 ^ suc n
 grows zero = omega arith
 grows (suc n) = omega (arith, grows n, pow-suc 2 (suc n))
 
--- no number of a range before the first passing one passes
 none_before : (p : ℕ → Bool) (n a w : ℕ) → find p (range_with_len a n) ≡ Some w → (v : ℕ) → a ≤ v → v < w → p v ≡ false
 none_before p zero a w e v h k = cc e
 none_before p (suc n) a w e v h k = by_test (λ i f. none_before p n (a + 1) w f v i k) (p a) refl e

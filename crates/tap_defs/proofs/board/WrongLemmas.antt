@@ -1,4 +1,4 @@
--- Scans that are wrong, and the faults that make them wrong.
+-- Conditions under which a scan is wrong.
 use Rattle.std.proofs.Common.{◌≡◌, ℕ, zero, suc, ◌+◌, ◌<◌, ◌==◌, Bool, true, false, cond, not, ◌&&◌, List, [], ◌∷◌, Option, Some, None, refl, sym, ◌∙◌, ap, arith, zero-add}
 use Rattle.std.specs.Prelude.{slice_get, unwrap_or, option_map}
 use Rattle.lists.proofs.Booleans.{not_itself}
@@ -32,7 +32,7 @@ use Rattle.tap_defs.proofs.board.InTestLemmas.{InTest, shifted_row, IsWrong}
 use Rattle.tap_defs.proofs.chain.ScanLemmas.{part_passes, cell_passes, filled_at}
 use Rattle.tap_defs.proofs.board.RowScanLemmas.{bits_fit, captured_fits}
 
--- a cell that is compared for this net under this setting
+-- a cell of this net that is compared under this setting
 pub record Compared (board : RawBoard) (setting : Enabling) (n : ℕ) (net : Net) : Type 0 where
   pub k : ℕ
   pub part : Part
@@ -56,7 +56,6 @@ pub record Compared (board : RawBoard) (setting : Enabling) (n : ℕ) (net : Net
   pub observing_is : observing_driver board setting net ≡ Some driver
   pub other : (driver == place) ≡ false
 
--- the expected bit of the cell is the bit that the net carries
 pub expects : (board : RawBoard) (row : TestRow) (n : ℕ) (net : Net) (c : Compared board row.setting n net) →
     expect_bit board row c.k c.device c.cell ≡ row.carried n
 expects board row n net c =
@@ -68,8 +67,6 @@ expects board row n net c =
     ∙ ap (λ (o : Option ℕ). expect_observed (row.carried n) c.place o) c.observing_is
     ∙ ap (λ (b : Bool). only_if (not b) (row.carried n)) c.other
 
--- if the pin of a compared cell is not a live driver, the cell captures the pin's constant if the pin is open, and
--- otherwise the bit of its net
 pub captures : (board : RawBoard) (faults : FaultSet) (setting : Enabling) (n : ℕ) (net : Net)
     (pin_state : List PinState) (shorts : ℕ → Bool) (w : Bool) (c : Compared board setting n net) →
     live_where board pin_state (Some (record { part = c.k; bit = c.bit })) ≡ false →
@@ -117,7 +114,6 @@ captured_here board faults free chain n net place k cell =
     (unwrap_or (net_bit board faults (pin_states chain) free.shorts n net)
     ((free.parts k).cells cell))
 
--- if a scan passes, each compared cell has captured the bit that its net carries
 pub passes_at : (board : RawBoard) (faults : FaultSet) (row now : TestRow) (n : ℕ) (net : Net) (v : Bool) → row.carried n ≡ Some v →
     (c : Compared board row.setting n net) (free : Choice) (chain : List ChainPart) →
     let t : RowScan = record { now = now; before = row } in
@@ -161,14 +157,15 @@ passes_at board faults row now n net v carried c free chain dead ok =
     (captures board faults row.setting n net (pin_states chain) free.shorts
     ((free.parts c.k).cells c.cell) c dead) ∙ same_is v (reads c.cell) m2
 
--- the pin of the cell is not a live driver while the row is in the latches
+-- While the row is in the latches, the pin is not a live driver.
 abbrev pub IsDead : RawBoard → TestRow → PinAt → Type 0
 IsDead board row at =
     (before : TestRow) (chain : List ChainPart)
     → InTest board (shifted_row board (record { now = row; before = before })) chain
     → live_where board (pin_states chain) (Some at) ≡ false
 
--- if a compared cell captures a constant, each scan that compares a row in which the cell's net carries the opposite bit is wrong
+-- A compared cell that captures the constant `u` makes a scan wrong if the scan compares a row in which the cell's net
+-- carries the opposite of `u`.
 pub wrong_if_constant : (board : RawBoard) (faults : FaultSet) (row before now : TestRow) (n : ℕ)
     (net : Net) (c : Compared board row.setting n net) (u : Bool) →
     IsDead board row (record { part = c.k; bit = c.bit }) →
@@ -186,8 +183,8 @@ wrong_if_constant board faults row before now n net c u dead const carried chain
     (passes_at board faults row now n net (not u) carried c free chain
     (dead before chain h) ok) ∙ const free chain h))
 
--- if two nets are in one short and the pins of their compared cells are not open, a scan is wrong that compares a row in
--- which the nets carry different bits
+-- Two nets in one short have the same bit. So a scan is wrong if it compares a row in which they carry different bits.
+-- The pins of their compared cells must not be open.
 pub wrong_if_shorted : (board : RawBoard) (faults : FaultSet) (row before now : TestRow) (a b s : ℕ)
     (v : Bool) (one two : Net) (c : Compared board row.setting a one)
     (d : Compared board row.setting b two) →

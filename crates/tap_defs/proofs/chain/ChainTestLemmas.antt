@@ -1,4 +1,4 @@
--- The chain test passes on the chains for which it was made, and fails on chains with another number of parts.
+-- The chain test passes on the chains for which it is made, and fails on chains with another number of parts.
 use Rattle.std.proofs.Common.{◌≡◌, ◌≢◌, ℕ, zero, suc, ◌+◌, ◌^◌, ◌<◌, ◌≤◌, Bool, true, false, cond, ◌&&◌, List, [], ◌∷◌, ◌++◌, length, map, take, drop}
 use Rattle.std.proofs.Common.{replicate, refl, sym, ◌∙◌, ap, subst, append_assoc, length-append, arith}
 use Rattle.std.proofs.Math.Bool.{and-true}
@@ -53,7 +53,6 @@ ones_are (n ∷ lengths) =
     list_all-append (λ b. b) (joined (ones lengths)) (replicate n true)
     ∙ and_from (all_ones (joined (ones lengths))) (all_ones (replicate n true)) (ones_are lengths) (all_ones-replicate n)
 
--- if the front has at most `n` bits, only ones are left after `n` bits
 ones_left : (front ones : List Bool) (n : ℕ) → length front ≤ n → all_ones ones ≡ true → all_ones (drop n (front ++ ones)) ≡ true
 ones_left [] ones n fits h = dropped n ones h
   where
@@ -64,7 +63,6 @@ ones_left [] ones n fits h = dropped n ones h
 ones_left (b ∷ front) ones zero fits h = absurd (omega (arith, fits))
 ones_left (b ∷ front) ones (suc n) fits h = ones_left front ones n (omega (arith, fits)) h
 
--- a code of ones means BYPASS in a part of any kind
 ones_bypass : (logic : TestLogic) (code : List Bool) → all_ones code ≡ true → instruction_of logic code ≡ Bypass
 ones_bypass logic code h =
     ap
@@ -94,7 +92,6 @@ selecting_by : (ps : List ChainPart) → AllIn RunTestIdle ps → AllBypass ps �
 selecting_by [] t h = tt
 selecting_by (p ∷ ps) t h = ((t.0, not_other p.state.current h.0), selecting_by ps t.1 h.1)
 
--- `k` zeros followed by a 0 are a 0 followed by `k` zeros; so parts with BYPASS load one 0 each
 zero_behind : (k : ℕ) → replicate k false ++ false ∷ [] ≡ false ∷ replicate k false
 zero_behind zero = refl
 zero_behind (suc k) = cons_path refl (zero_behind k)
@@ -108,7 +105,6 @@ loads_zeros (p ∷ ps) pins free h =
     ∙ ap (λ (r : List Bool). r ++ false ∷ []) (loads_zeros ps (λ k. pins (suc k)) (λ k. free (suc k)) h.1)
     ∙ zero_behind (length ps)
 
--- a scan that expects the bits `out` passes if `out` comes out first
 compared_passes : (ins out rest : List Bool) → length out ≤ length ins → scan_passes (compared_with ins out) (out ++ rest) ≡ true
 compared_passes [] [] rest h = refl
 compared_passes (i ∷ ins) [] rest h = refl
@@ -116,7 +112,7 @@ compared_passes [] (o ∷ out) rest h = absurd (omega (arith, h))
 compared_passes (i ∷ ins) (true ∷ out) rest h = compared_passes ins out rest (omega (arith, h))
 compared_passes (i ∷ ins) (false ∷ out) rest h = compared_passes ins out rest (omega (arith, h))
 
--- if the number of zeros that come out before the marks is not the expected one, the scan fails
+-- The scan fails if the number of zeros before the marks is not the expected one.
 count_fails : (ins : List Bool) (k j : ℕ) (rest : List Bool) → k ≢ j → length (replicate k false ++ marks) ≤ length ins →
     scan_passes (compared_with ins (replicate k false ++ marks)) (replicate j false ++ (marks ++ rest)) ≡ false
 count_fails [] k j rest ne h = absurd (omega (arith, h, length-append (replicate k false) marks))
@@ -133,7 +129,6 @@ length-compared (i ∷ ins) (o ∷ out) h = ap suc (length-compared ins out (ome
 count_by_logics : (ps : List ChainPart) (parts : List TestLogic) → logics ps ≡ parts → length ps ≡ length parts
 count_by_logics ps parts e = sym (length-map ps (λ p. p.logic)) ∙ ap (λ (l : List TestLogic). length l) e
 
--- if each length is at least 2, each instruction register has at least two bits
 room_by : (lengths : List ℕ) → All (λ n. 2 ≤ n) lengths → AllRoom lengths
 room_by [] h = tt
 room_by (n ∷ lengths) h = (h 0 0 (omega arith), room_by lengths (λ k d lt. h (suc k) d (omega (arith, lt))))
@@ -146,7 +141,7 @@ module _ (lengths : List ℕ) (are : AreIrLengths lengths) (most : sum lengths �
   abbrev zeros : List Bool
   zeros = replicate (length lengths) false
 
-  -- the bits of the first scan, which shifts codes of ones in, and of the second scan, which counts the parts
+  -- the bits of the first scan, which shifts in codes of ones, and of the second scan, which counts the parts
   abbrev code_part : List ScanBit
   code_part = joined (map code_bits (ones lengths))
 
@@ -200,7 +195,6 @@ module _ (lengths : List ℕ) (are : AreIrLengths lengths) (most : sum lengths �
     abbrev counts_pass : Bool
     counts_pass = run_passes (sdr_clocks count_part) (tdos wiring (sdr_clocks count_part) f7 coded)
 
-    -- the two scans of the test decide whether its text passes
     both_decide : run_passes (test_clocks (chain_scans lengths))
         (tdos wiring (test_clocks (chain_scans lengths)) choices chain)
         ≡ (codes_pass && counts_pass)
@@ -231,7 +225,8 @@ module _ (lengths : List ℕ) (are : AreIrLengths lengths) (most : sum lengths �
         count_by_logics coded parts
         (run_logics wiring (sir_clocks code_part) f6 headed ∙ run_logics wiring head_clocks choices chain ∙ start.logics_are)
 
-    -- if the instruction registers have no more bits in total than the codes, every part has BYPASS after the first scan
+    -- If the instruction registers have no more bits in total than the codes, every part has BYPASS after the first
+    -- scan.
     all_bypass : sum (ir_lengths parts) ≤ sum lengths → AllBypass coded
     all_bypass few =
         bypass_by coded code_scan.currents
@@ -240,7 +235,7 @@ module _ (lengths : List ℕ) (are : AreIrLengths lengths) (most : sum lengths �
         ∙ ones_left (joined captured) (joined (ones lengths)) (length code_part)
         (omega (arith, captured_size, code_size, few)) (ones_are lengths))
 
-    -- the second scan then reads one zero for each part, followed by the marks
+    -- With every part in BYPASS, the second scan reads one zero for each part and then the marks.
     counts_read : sum (ir_lengths parts) ≤ sum lengths →
         counts_pass ≡ scan_passes count_part (replicate (length parts) false ++ (marks ++ zeros))
     counts_read few =
@@ -254,7 +249,6 @@ module _ (lengths : List ℕ) (are : AreIrLengths lengths) (most : sum lengths �
         ∙ ap (λ (r : List Bool). scan_passes count_part (r ++ (marks ++ zeros)))
         (loads_zeros coded (bits_at_pins wiring (f7 2) coded) (f7 2).parts bypass ∙ ap (λ (n : ℕ). replicate n false) coded_count)
 
-    -- on a chain with these lengths the first scan passes
     codes_read : ir_lengths parts ≡ lengths → codes_pass ≡ true
     codes_read e =
         let fits : map length (ones lengths) ≡ map length (ir_registers headed) = lengths-ones lengths ∙ sym e ∙ sym headed_sizes in

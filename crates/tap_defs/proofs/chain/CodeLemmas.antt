@@ -17,7 +17,7 @@ use Rattle.tap_defs.proofs.chain.ListLemmas.{cons_path, take_front, drop_front, 
 use Rattle.tap_defs.proofs.chain.MoveLemmas.{with_tap, at_tap, moved_to, chain_moves, map-moved_to, ir_captures-moved_to, moved_in, run_moves}
 use Rattle.tap_defs.proofs.chain.RunLemmas.{run-append, tdos-append, shifts_pass}
 
--- the part still has the properties that an instruction scan does not change
+-- the part has the same values of all properties that an instruction scan does not change
 abbrev SameFrame : TestLogic → PartState → PartState → Type 0
 SameFrame logic s after =
     ◌≡◌ {A = CodeFrame} (code_frame (record { logic = logic; state = after }))
@@ -123,7 +123,7 @@ all_shifts wiring b (c ∷ bits) choices ps h =
       count = ap suc ih.count;
     }
 
--- a part that enters Update-IR: its current instruction is then the one that its code means
+-- a part that enters Update-IR, where its code becomes its current instruction
 record Updates (logic : TestLogic) (s after : PartState) : Type 0 where
   code : after.ir ≡ s.ir
   current : after.current ≡ instruction_of logic after.ir
@@ -159,7 +159,7 @@ pub lengths-ir_captures : (ps : List ChainPart) (free : ℕ → FreeBits) → ma
 lengths-ir_captures [] free = refl
 lengths-ir_captures (p ∷ ps) free = cons_path (length-captured_ir p.state.ir (free 0).ir) (lengths-ir_captures ps (λ k. free (suc k)))
 
--- the clock in Capture-IR captures the bits that `codes_captured` gives for the chain before the scan
+-- The clock in Capture-IR captures the bits that `codes_captured` gives for the chain before the scan.
 captures_moved : (wiring : Wiring) (choices : Choices) (ps : List ChainPart) →
     ChainCaptures (codes_captured choices ps) ps (clock_after wiring (plain false) (choices 3) (map (moved_to CaptureIR) ps))
 captures_moved wiring choices ps =
@@ -172,7 +172,6 @@ captures_moved wiring choices ps =
       taps = e.taps;
     }
 
--- an instruction scan of any length has the effect that `LongCodeTransport` states, on any chain
 pub long_code_transport : LongCodeTransport
 unfolding run tdos
 long_code_transport wiring [] choices ps h some = absurd (omega (arith, some))
@@ -196,7 +195,7 @@ long_code_transport wiring (b ∷ bits) choices ps h some =
     let shift = all_shifts wiring b bits f4 n4 capture.taps in
     let n5 : List ChainPart = run wiring shifts f4 n4 in
     let out : List Bool = tdos wiring shifts f4 n4 in
-    -- the clocks of the update and back to Run-Test/Idle
+    -- the clocks through Update-IR back to Run-Test/Idle
     let f5 : Choices = choices_after shifts f4 in
     let n6 : List ChainPart = clock_after wiring (plain true) (f5 0) n5 in
     let update = chain_updates n5 (bits_at_pins wiring (f5 0) n5) (f5 0).parts (f5 0).tdi shift.taps in
@@ -249,7 +248,7 @@ long_code_transport wiring (b ∷ bits) choices ps h some =
       idle = subst (λ (r : List ChainPart). AllIn RunTestIdle r) (sym after_is) (moved_in RunTestIdle n6);
     }
 
--- if the scan is as long as the registers, all captured bits come out, and all bits that are shifted in are held
+-- The special case of a scan that is as long as the instruction registers.
 pub code_transport : CodeTransport
 code_transport wiring bits choices ps h some size =
     let captured : List (List Bool) = codes_captured choices ps in

@@ -220,7 +220,7 @@ chain_updates (p ∷ ps) pins free tdi h =
       selecting = (e.selecting, ih.selecting);
     }
 
--- the clock in Capture-DR captures the bits that `data_captured` gives for the chain before the scan
+-- The clock in Capture-DR captures the bits that `data_captured` gives for the chain before the scan.
 captures_moved : (wiring : Wiring) (choices : Choices) (ps : List ChainPart) → AllSelectingIn RunTestIdle ps →
     ChainCaptures (data_captured wiring choices ps) ps (clock_after wiring (plain false) (choices 2) (map (moved_to CaptureDR) ps))
 captures_moved wiring choices ps h =
@@ -238,7 +238,6 @@ captures_moved wiring choices ps h =
       selecting = e.selecting;
     }
 
--- a data scan of any length has the effect that `LongDataTransport` states, on any chain
 pub long_data_transport : LongDataTransport
 unfolding run tdos
 long_data_transport wiring [] choices ps h some = absurd (omega (arith, some))
@@ -262,7 +261,7 @@ long_data_transport wiring (b ∷ bits) choices ps h some =
     let shift = all_shifts wiring b bits f3 n3 capture.selecting in
     let n4 : List ChainPart = run wiring shifts f3 n3 in
     let out : List Bool = tdos wiring shifts f3 n3 in
-    -- the clocks of the update and back to Run-Test/Idle
+    -- the clocks through Update-DR back to Run-Test/Idle
     let f4 : Choices = choices_after shifts f3 in
     let n5 : List ChainPart = clock_after wiring (plain true) (f4 0) n4 in
     let update = chain_updates n4 (bits_at_pins wiring (f4 0) n4) (f4 0).parts (f4 0).tdi shift.selecting in
@@ -308,7 +307,7 @@ long_data_transport wiring (b ∷ bits) choices ps h some =
           (moved_selecting UpdateDR RunTestIdle n5 update.selecting);
     }
 
--- if the scan is as long as the registers, all captured bits come out, and all bits that are shifted in are held
+-- The special case of a scan that is as long as the registers.
 pub data_transport : DataTransport
 data_transport wiring bits choices ps h some size =
     let captured : List (List Bool) = data_captured wiring choices ps in

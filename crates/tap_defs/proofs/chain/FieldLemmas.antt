@@ -1,4 +1,4 @@
--- The hexadecimal digits of bits, read as a field, give the same bits.
+-- Proof that reading the hexadecimal digits of bits as a field gives the same bits.
 use Rattle.std.proofs.Common.{◌≡◌, ℕ, Bool, true, false, cond, not, List, [], ◌∷◌, ◌++◌, length, take, Option, Some, None, refl, sym, ◌∙◌, ap}
 use Rattle.std.proofs.Common.{append_assoc, eq-eqb}
 use Rattle.std.proofs.lemmas.List.{append-nil}
@@ -42,7 +42,7 @@ text_bits_last (x ∷ digits) c =
     ap (λ (r : Option (List Bool)). joined_bits r (digit_bits x)) (text_bits_last digits c)
     ∙ joined_assoc (digit_bits c) (text_bits digits) (digit_bits x)
 
--- the digits of the bits are read as the same bits, with zeros above them
+-- `read` is `bits`, followed by zeros in the higher positions
 record Padded (bits : List Bool) (read : Option (List Bool)) : Type 0 where
   zeros : List Bool
   are_zero : list_all not zeros ≡ true

@@ -1,4 +1,4 @@
--- The properties that every clock keeps, and the effect of the head of a text on any chain.
+-- The properties of a chain that every clock keeps, and the effect of the head of a text on any chain.
 use Rattle.std.proofs.Common.{◌≡◌, ℕ, suc, Bool, true, false, ◌&&◌, List, [], ◌∷◌, ◌++◌, length, map, refl, ◌∙◌, ap}
 use Rattle.std.proofs.Math.Bool.{and-true}
 use Rattle.tap_defs.specs.declared.tap.TapState.{TapState}
@@ -17,7 +17,6 @@ use Rattle.tap_defs.proofs.chain.ListLemmas.{cons_path, length-shifted, length-c
 use Rattle.tap_defs.proofs.chain.MoveLemmas.{way}
 use Rattle.tap_defs.proofs.chain.RunLemmas.{run_keeps, two_pass}
 
--- a clock keeps the parts of a chain
 pub chain_logics : (ps : List ChainPart) (pins : ℕ → List Bool) (free : ℕ → FreeBits) (tms tdi : Bool) →
     logics (chain_after ps pins free tms tdi) ≡ logics ps
 chain_logics [] pins free tms tdi = refl
@@ -31,7 +30,8 @@ run_logics wiring cs choices ps =
     run_keeps (λ (qs : List ChainPart). logics qs ≡ logics ps) wiring
     (λ c choice qs e. chain_logics qs (bits_at_pins wiring choice qs) choice.parts c.tms (clock_tdi c choice) ∙ e) cs choices ps refl
 
--- a clock keeps the lengths of the instruction registers, since the actions of the old state and of the new state keep them
+-- A clock keeps the lengths of the instruction registers, because both of its actions keep them: that of the old state
+-- and that of the new state.
 old_ir : (t : TapState) (i : Instruction) (logic : TestLogic) (pins : List Bool) (free : FreeBits) (tdi : Bool) (s : PartState) →
     length (old_state_acts t i logic pins free tdi s).ir ≡ length s.ir
 old_ir CaptureIR i logic pins free tdi s = length-captured_ir s.ir free.ir
@@ -87,7 +87,8 @@ states_ir (p ∷ ps) h = cons_path h.0.ir (states_ir ps h.1)
 pub chain_lengths : (parts : List TestLogic) (ps : List ChainPart) → IsChainOf parts ps → ir_sizes ps ≡ ir_lengths parts
 chain_lengths parts ps h = states_ir ps h.states_are ∙ ap (λ (l : List TestLogic). ir_lengths l) h.logics_are
 
--- the new state's action does not change the TAP state; so a clock moves the TAP state as the state table says
+-- A clock moves each TAP controller as the state table says, because the action of the new state does not change the
+-- TAP state.
 new_tap : (t : TapState) (i : Instruction) (logic : TestLogic) (free : FreeBits) (s : PartState) →
     (new_state_acts t i logic free s).tap ≡ s.tap
 new_tap UpdateIR i logic free s = refl
@@ -104,7 +105,7 @@ part_tap logic pins free tms tdi s =
     (record (old_state_acts s.tap s.current logic pins free tdi s)
     { tap = next_state s.tap tms })
 
--- these clocks lead every part to this state
+-- these clocks lead the controller of every part to the state `u`
 abbrev AllLead : TapState → List Clock → List ChainPart → Type 0
 AllLead u cs [] = Unit {0}
 AllLead u cs (p ∷ ps) = (way p.state.tap cs ≡ u) × AllLead u cs ps
@@ -156,14 +157,14 @@ all_idle : (ps : List ChainPart) → AllLead RunTestIdle head_clocks ps
 all_idle [] = tt
 all_idle (p ∷ ps) = (ap (λ (t : TapState). next_state t false) (resets p.state.tap), all_idle ps)
 
--- each part is in Test-Logic-Reset after the fifth clock, and in Run-Test/Idle after the sixth
+-- Each part is in Test-Logic-Reset after the fifth clock of the head, and in Run-Test/Idle after the sixth.
 pub run_resets : (wiring : Wiring) (choices : Choices) (ps : List ChainPart) → AllIn TestLogicReset (run wiring reset_clocks choices ps)
 run_resets wiring choices ps = run_leads wiring TestLogicReset reset_clocks choices ps (all_reset ps)
 
 pub head_idles : (wiring : Wiring) (choices : Choices) (ps : List ChainPart) → AllIn RunTestIdle (run wiring head_clocks choices ps)
 head_idles wiring choices ps = run_leads wiring RunTestIdle head_clocks choices ps (all_idle ps)
 
--- a text passes if and only if its scans pass after the head
+-- The head and the tail compare nothing. So a text passes if and only if its scans pass after the head.
 pub scans_decide : (wiring : Wiring) (scans : List Scan) (choices : Choices) (ps : List ChainPart) →
     run_passes (test_clocks scans) (tdos wiring (test_clocks scans) choices ps)
     ≡ run_passes (all_clocks scans) (tdos wiring (all_clocks scans) (choices_after head_clocks choices) (run wiring head_clocks choices ps))

@@ -1,4 +1,4 @@
--- An instruction scan that gives each part its code.
+-- An instruction scan gives each part the instruction of its code.
 use Rattle.std.proofs.Common.{◌≡◌, ℕ, suc, ◌≤◌, Bool, true, ◌&&◌, List, [], ◌∷◌, ◌++◌, length, map, refl, sym, ◌∙◌, ap, arith}
 use Rattle.std.proofs.lemmas.List.{map-append, length-map}
 use Rattle.tap_defs.specs.chain.ShiftRegister.{filled, captured_ir}
@@ -30,7 +30,6 @@ lengths-code_bits (c ∷ codes) = cons_path (length-code_bits c) (lengths-code_b
 pub length-instructs : (codes : List (List Bool)) → length (joined (map code_bits codes)) ≡ length (joined codes)
 length-instructs codes = length-joined (map code_bits codes) codes (lengths-code_bits codes)
 
--- the bits that are shifted in are the codes
 pub tdi_bits-instructs : (codes : List (List Bool)) → tdi_bits (joined (map code_bits codes)) ≡ joined codes
 tdi_bits-instructs [] = refl
 tdi_bits-instructs (c ∷ codes) =
@@ -38,7 +37,7 @@ tdi_bits-instructs (c ∷ codes) =
     ∙ ap (λ (r : List Bool). r ++ tdi_bits (code_bits c)) (tdi_bits-instructs codes)
     ∙ ap (λ (r : List Bool). joined codes ++ r) (tdi_bits-code_bits c)
 
--- the scan bits of a part's code pass with the bits that the part captures, since the lowest two of these are 01
+-- The scan bits of a part's code pass, because they compare only the lowest two captured bits, which are 01.
 code_passes : (code ir : List Bool) (free : ℕ → Bool) → length code ≡ length ir → 2 ≤ length ir →
     scan_passes (code_bits code) (captured_ir ir free) ≡ true
 code_passes code [] free e h = absurd (omega (arith, h))
@@ -47,7 +46,7 @@ code_passes [] (x ∷ y ∷ ir) free e h = absurd (omega (arith, e))
 code_passes (a ∷ []) (x ∷ y ∷ ir) free e h = absurd (omega (arith, e))
 code_passes (a ∷ b ∷ code) (x ∷ y ∷ ir) free e h = sent_passes code (filled (length ir) free)
 
--- every instruction register has at least two bits
+-- each of these lengths of instruction registers is at least 2
 abbrev pub AllRoom : List ℕ → Type 0
 AllRoom [] = Unit {0}
 AllRoom (n ∷ lengths) = (2 ≤ n) × AllRoom lengths

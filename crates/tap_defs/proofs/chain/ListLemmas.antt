@@ -7,14 +7,12 @@ use Rattle.tap_defs.specs.chain.ShiftRegister.{shifted_out, shifted, filled, cap
 pub cons_path : {A : Type 0} {x y : A} {xs ys : List A} → x ≡ y → xs ≡ ys → x ∷ xs ≡ y ∷ ys
 cons_path p q = cc
 
--- if a list is made of a front of `n` items and a rest, its first `n` items are the front, and the others are the rest
 pub take_front : {A : Type 0} (n : ℕ) (front rest : List A) → length front ≡ n → take n (front ++ rest) ≡ front
 take_front n front rest e = subst (λ (m : ℕ). take m (front ++ rest) ≡ front) e (take-append_seam front rest)
 
 pub drop_front : {A : Type 0} (n : ℕ) (front rest : List A) → length front ≡ n → drop n (front ++ rest) ≡ rest
 drop_front n front rest e = subst (λ (m : ℕ). drop m (front ++ rest) ≡ rest) e (drop-append_seam front rest)
 
--- if two lists of registers have the same lengths, so do the joined registers
 pub length-joined : {A B : Type 0} (rs : List (List A)) (qs : List (List B)) → map length rs ≡ map length qs →
     length (joined rs) ≡ length (joined qs)
 length-joined [] [] e = refl
@@ -25,7 +23,6 @@ length-joined (r ∷ rs) (q ∷ qs) e =
     let tail : map length rs ≡ map length qs = cc e in
     omega (arith, length-append (joined rs) r, length-append (joined qs) q, head, length-joined rs qs tail)
 
--- a register followed by the bit shifted in is the bit shifted out followed by the register after the shift
 pub shift_is : (bits : List Bool) (tdi : Bool) → bits ++ tdi ∷ [] ≡ shifted_out bits tdi ∷ shifted bits tdi
 shift_is [] tdi = refl
 shift_is (b ∷ bits) tdi = refl
@@ -38,7 +35,6 @@ pub length-filled : {A : Type 0} (n : ℕ) (f : ℕ → A) → length (filled n 
 length-filled zero f = refl
 length-filled (suc n) f = ap suc (length-filled n (λ k. f (suc k)))
 
--- applying `g` to each item of the list of `f 0` to `f (n - 1)` gives the list of `g (f 0)` to `g (f (n - 1))`
 pub map-filled : {A B : Type 0} (g : A → B) (n : ℕ) (f : ℕ → A) → map g (filled n f) ≡ filled n (λ k. g (f k))
 map-filled g zero f = refl
 map-filled g (suc n) f = cons_path refl (map-filled g n (λ k. f (suc k)))

@@ -1,4 +1,4 @@
--- The text of scans means the clocks of the head, of the scans and of the tail.
+-- Proof that the text of scans means the clocks of the head, of the scans and of the tail.
 use Rattle.std.proofs.Common.{◌≡◌, ℕ, zero, suc, ◌^◌, ◌<◌, ◌==◌, Bool, true, false, cond, not, ◌&&◌, ◌||◌, List, [], ◌∷◌, ◌++◌, length, map, Option}
 use Rattle.std.proofs.Common.{Some, None, refl, sym, ◌∙◌, ap, append_assoc}
 use Rattle.std.proofs.lemmas.Bool.{and_parts, and_from, not-true}
@@ -22,7 +22,7 @@ use Rattle.tap_defs.proofs.chain.StatementLemmas.{statement_is}
 abbrev statements_in : List Token → Option (List Statement)
 statements_in tokens = option_and_then statements_of (pieces_from [] tokens)
 
--- the token does not end a statement
+-- true if the token does not end a statement
 abbrev is_inner : Token → Bool
 is_inner (Word w) = true
 is_inner Open = true
@@ -93,7 +93,6 @@ scans_read (s ∷ scans) rest more h e =
     ∙ one_scan s (scan_texts scans ++ rest) h.0.0 h.0.1
     ∙ ap (λ (o : Option (List Statement)). option_map (λ more. ScanOf s ∷ more) o) (scans_read scans rest more h.1 e)
 
--- a text without ! and / has no comments
 bare_stays : (text : List ℕ) → list_all is_bare text ≡ true → without_comments false text ≡ text
 bare_stays [] h = refl
 bare_stays (b ∷ []) h =
@@ -170,7 +169,7 @@ head_statements = TrstOff ∷ EndIrIdle ∷ EndDrIdle ∷ StateReset ∷ StateId
 abbrev tail_statements : List Statement
 tail_statements = StateReset ∷ []
 
--- the tokens of a statement of two words, followed by those of later statements
+-- the tokens of a statement of two words, before the tokens of later statements
 abbrev said : List ℕ → List ℕ → Option (List (List Token)) → Option (List (List Token))
 said a b pieces = option_map (λ more. (Word a ∷ Word b ∷ []) ∷ more) pieces
 
@@ -209,7 +208,7 @@ text_read scans h =
     ∙ head_read (scan_texts scans ++ tail_text)
     ∙ ap head_then (scans_read scans tail_text tail_statements h tail_read)
 
--- the state after the head, in which the controllers are in Run-Test/Idle and scans end there; it is needed for the clocks of the scans
+-- The state after the head: the controllers are in Run-Test/Idle, and scans end there.
 abbrev idle : Standing
 idle = record { idle = true; ends_ir = true; ends_dr = true }
 

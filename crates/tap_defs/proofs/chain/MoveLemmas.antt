@@ -1,5 +1,4 @@
--- Clocks that only move the controllers. The old state neither captures nor shifts, and the new state neither updates nor
--- resets.
+-- Clocks that only move the TAP controllers: they neither capture, shift, update nor reset.
 use Rattle.std.proofs.Common.{◌≡◌, ℕ, suc, Bool, true, false, not, ◌&&◌, List, [], ◌∷◌, map, refl, sym, ◌∙◌, ap, subst}
 use Rattle.std.proofs.lemmas.Bool.{and_parts, not-true}
 use Rattle.tap_defs.specs.declared.tap.TapState.{TapState}
@@ -23,14 +22,13 @@ with_tap t s = record {
   latches = s.latches;
 }
 
--- if a part is in TAP state `t`, a fact about the part with its TAP state set to `t` is a fact about the part
 pub at_tap : (P : PartState → Type 0) (t : TapState) (s : PartState) → s.tap ≡ t → P (with_tap t s) → P s
 at_tap P t s e p = subst (λ (u : TapState). P (with_tap u s)) (sym e) p
 
 abbrev pub moved_to : TapState → ChainPart → ChainPart
 moved_to t p = record p { state = with_tap t p.state }
 
--- the action of the old state changes no register
+-- true if the action of the old state changes no register
 abbrev pub rests : TapState → Bool
 rests CaptureDR = false
 rests ShiftDR = false
@@ -38,7 +36,7 @@ rests CaptureIR = false
 rests ShiftIR = false
 rests _ = true
 
--- the action of the new state changes the instruction or the latches
+-- true if the action of the new state changes the instruction or the latches
 abbrev pub changes : TapState → Bool
 changes TestLogicReset = true
 changes UpdateDR = true
@@ -79,7 +77,6 @@ chain_moves t (p ∷ ps) pins free tms tdi h e f =
     ∙ ap (λ (u : TapState). with_tap (next_state u tms) p.state) h.0))
     (chain_moves t ps (λ k. pins (suc k)) (λ k. free (suc k)) tms (part_tdo (free 0) tdi p.state) h.1 e f)
 
--- a function that does not depend on the TAP state has the same values after the controllers have moved
 pub map-moved_to : {A : Type 0} (g : ChainPart → A) (t : TapState) → ((p : ChainPart) → g (moved_to t p) ≡ g p) → (ps : List ChainPart) →
     map g (map (moved_to t) ps) ≡ map g ps
 map-moved_to g t q [] = refl
@@ -118,7 +115,7 @@ moved_twice : (t u : TapState) (ps : List ChainPart) → map (moved_to u) (map (
 moved_twice t u [] = refl
 moved_twice t u (p ∷ ps) = cons_path refl (moved_twice t u ps)
 
--- the path of a controller through some clocks, and the test that these clocks only move the controller
+-- `way` is the state to which these clocks lead a controller. `is_clear` says whether they only move the controller.
 abbrev pub way : TapState → List Clock → TapState
 way t [] = t
 way t (c ∷ cs) = way (next_state t c.tms) cs

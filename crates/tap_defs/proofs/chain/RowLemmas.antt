@@ -6,7 +6,6 @@ use Rattle.tap_defs.specs.chain.Codes.{sent, code_bits}
 use Rattle.tap_defs.specs.chain.ChainScans.{compared_with}
 use Rattle.tap_defs.proofs.chain.ListLemmas.{cons_path}
 
--- the row of TDI of a scan has the bits that were given for shifting in
 pub tdi_bits-sent : (code : List Bool) → tdi_bits (map sent code) ≡ code
 tdi_bits-sent [] = refl
 tdi_bits-sent (b ∷ code) = cons_path refl (tdi_bits-sent code)
@@ -21,12 +20,11 @@ tdi_bits-compared [] out h = refl
 tdi_bits-compared (i ∷ ins) [] h = absurd (omega (arith, h))
 tdi_bits-compared (i ∷ ins) (o ∷ out) h = cons_path refl (tdi_bits-compared ins out (omega (arith, h)))
 
--- a code of ones has only ones
 pub all_ones-replicate : (n : ℕ) → all_ones (replicate n true) ≡ true
 all_ones-replicate zero = refl
 all_ones-replicate (suc n) = all_ones-replicate n
 
--- a scan that is made from its own rows is the same scan
+-- A scan that is made from its own rows is the same scan.
 bit_is : (tdi : Bool) (expect : Option Bool) →
     ◌≡◌ {A = ScanBit}
     (record { tdi = tdi; expect = cond (is_some expect) (Some (unwrap_or expect false)) None })
@@ -38,7 +36,6 @@ pub scan_bits-rows : (bits : List ScanBit) → scan_bits (tdi_bits bits) (tdo_bi
 scan_bits-rows [] = refl
 scan_bits-rows (b ∷ bits) = cons_path (bit_is b.tdi b.expect) (scan_bits-rows bits)
 
--- wherever the row of TDO has a 1, the row of MASK has a 1
 pub one_masked : (bits : List ScanBit) (i : ℕ) → get_or (tdo_bits bits) i false ≡ true → get_or (mask_bits bits) i false ≡ true
 one_masked [] i one = one
 one_masked (b ∷ bits) zero one = by_expect b.expect one
@@ -48,7 +45,7 @@ one_masked (b ∷ bits) zero one = by_expect b.expect one
     by_expect (Some o) e = refl
 one_masked (b ∷ bits) (suc i) one = one_masked bits i one
 
--- the row of MASK of a scan that is made from rows is the given one
+-- A scan that is made from three rows has the given row of MASK.
 is_compared : (o m : Bool) → is_some (cond m (Some o) None) ≡ m
 is_compared o true = refl
 is_compared o false = refl

@@ -25,7 +25,6 @@ unfolding tdos
 length-tdos wiring [] choices ps = refl
 length-tdos wiring (c ∷ cs) choices ps = ap suc (length-tdos wiring cs (later choices) (clock_after wiring c (choices 0) ps))
 
--- if each clock keeps a property of the chain, a run of clocks keeps it
 pub run_keeps : (P : List ChainPart → Type 0) (wiring : Wiring) →
     ((c : Clock) (choice : Choice) (ps : List ChainPart) → P ps → P (clock_after wiring c choice ps)) →
     (cs : List Clock) (choices : Choices) (ps : List ChainPart) → P ps → P (run wiring cs choices ps)
@@ -48,7 +47,6 @@ run_passes-append (x ∷ xs) ys (o ∷ os) ps e =
     ap (λ (r : Bool). bit_passes x.expect o && r) (run_passes-append xs ys os ps (omega (arith, e)))
     ∙ and_assoc (bit_passes x.expect o) (run_passes xs os) (run_passes ys ps)
 
--- if one list of clocks runs after another, the run passes if and only if both parts of it pass
 pub two_pass : (wiring : Wiring) (xs ys : List Clock) (choices : Choices) (ps : List ChainPart) →
     run_passes (xs ++ ys) (tdos wiring (xs ++ ys) choices ps)
     ≡ (run_passes xs (tdos wiring xs choices ps) && run_passes ys (tdos wiring ys (choices_after xs choices) (run wiring xs choices ps)))
@@ -57,7 +55,6 @@ two_pass wiring xs ys choices ps =
     ∙ run_passes-append xs ys (tdos wiring xs choices ps) (tdos wiring ys (choices_after xs choices) (run wiring xs choices ps))
     (length-tdos wiring xs choices ps)
 
--- if clocks that compare nothing follow the shift clocks of a scan, the run passes if and only if the scan passes
 pub shifts_pass : (b : ScanBit) (bits : List ScanBit) (out more : List Bool) (rest : List Clock) → length out ≡ length (b ∷ bits) →
     run_passes rest more ≡ true →
     run_passes (shift_clocks (b ∷ bits) ++ rest) (out ++ more) ≡ scan_passes (b ∷ bits) out
@@ -68,7 +65,6 @@ shifts_pass b (c ∷ bits) (o ∷ out) more rest e h =
     ap (λ (r : Bool). bit_passes b.expect o && r)
     (shifts_pass c bits out more rest (omega (arith, e)) h)
 
--- only the first bits that come out are compared, as many as the scan has
 pub scan_passes_take : (bits : List ScanBit) (out : List Bool) → scan_passes bits (take (length bits) out) ≡ scan_passes bits out
 scan_passes_take [] out = refl
 scan_passes_take (b ∷ bits) [] = refl

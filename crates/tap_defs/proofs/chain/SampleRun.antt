@@ -44,7 +44,7 @@ two = record { logic = plain_logic 4; state = pausing } ∷ record { logic = pla
 abbrev pub one : List ChainPart
 one = record { logic = plain_logic 6; state = record pausing { ir = on ∷ on ∷ on ∷ on ∷ on ∷ on ∷ [] } } ∷ []
 
--- the sample chains have states of such parts
+-- `two` and `one` are possible states of chains of such parts
 pub two_start : IsChainOf (plain_logic 4 ∷ plain_logic 2 ∷ []) two
 two_start = record {
   logics_are = refl;
@@ -57,7 +57,7 @@ two_start = record {
 abbrev pub clocks : List Clock
 clocks = test_clocks two_parts_scans
 
--- TDO of the chain of two parts, whose last part is in Shift-IR in the first clock
+-- TDO of the chain of two parts in each clock; its last part is in Shift-IR in the first clock
 pub two_shows : tdos no_wiring clocks choices two ≡
     (on ∷ off ∷ off ∷ off ∷ off ∷ off ∷ [])
     ++ (off ∷ off ∷ off ∷ off ∷ []) ++ (on ∷ off ∷ on ∷ off ∷ on ∷ on ∷ []) ++ (off ∷ off ∷ [])
@@ -70,7 +70,7 @@ pub two_passes : run_passes clocks (tdos no_wiring clocks choices two) ≡ true
 unfolding tdos
 two_passes = refl
 
--- TDO of the chain of one part, which delays the marks by only one place
+-- TDO of the chain of one part in each clock; it delays the marks by only one place
 pub one_shows : tdos no_wiring clocks choices one ≡
     (off ∷ off ∷ off ∷ off ∷ off ∷ off ∷ [])
     ++ (off ∷ off ∷ off ∷ off ∷ []) ++ (on ∷ off ∷ on ∷ on ∷ on ∷ on ∷ []) ++ (off ∷ off ∷ [])

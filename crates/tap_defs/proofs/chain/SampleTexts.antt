@@ -27,7 +27,7 @@ off = false
 abbrev pub on : Bool
 on = true
 
--- a bit that is compared
+-- a scan bit that is compared
 abbrev pub read : Bool → Bool → ScanBit
 read tdi expected = record { tdi = tdi; expect = Some expected }
 
@@ -135,7 +135,8 @@ pub scan_means : headed (codes "SDR 5 TDI (08) TDO (01) MASK (05);" ∷ []) ≡ 
 unfolding meaning text_statements tokens_from
 scan_means = refl
 
--- the text has a meaning in spite of comments, blanks, line ends between digits, digits in either case, and TDO bits that are not compared
+-- This text has a meaning, in spite of comments, blanks, line ends between digits, digits in either case, and TDO bits
+-- that are not compared.
 pub comment_means : headed
     (codes "! a; (" ∷ codes "SDR 5 // 6" ∷ codes "TDI (0!8" ∷ codes "8) TDO (0"
     ∷ codes " 1 )MASK (05 ) ;//" ∷ []) ≡ one_scan
@@ -151,8 +152,8 @@ pub resets_mean : headed (codes "STATE RESET;STATE IDLE;TRST OFF;STATE RESET;" �
 unfolding meaning text_statements tokens_from
 resets_mean = refl
 
--- Texts without a meaning: STATE IDLE is not right after STATE RESET, or a scan does not begin in Run-Test/Idle or has no
--- ENDDR IDLE before it.
+-- Texts without a meaning: STATE IDLE is not right after STATE RESET, a scan does not begin in Run-Test/Idle, or a scan
+-- has no ENDDR IDLE before it.
 pub idle_late : meaning (codes "STATE RESET; ENDDR IDLE; STATE IDLE;") ≡ None
 unfolding meaning text_statements tokens_from
 idle_late = refl

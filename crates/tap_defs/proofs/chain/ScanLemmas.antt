@@ -10,7 +10,6 @@ use Rattle.tap_defs.specs.chain.Transport.{scan_passes}
 use Rattle.tap_defs.proofs.chain.ListLemmas.{cons_path, length-joined}
 use Rattle.tap_defs.proofs.chain.RunLemmas.{scan_passes-append}
 
--- if two lists are equal and are split at the same length, their parts are equal
 pub split : (a b c d : List Bool) → length a ≡ length b → a ++ c ≡ b ++ d → (a ≡ b) × (c ≡ d)
 split [] [] c d h e = (refl, e)
 split [] (y ∷ b) c d h e = absurd (omega (arith, h))
@@ -21,7 +20,6 @@ split (x ∷ a) (y ∷ b) c d h e =
     let ih = split a b c d (omega (arith, h)) tl in
     (cons_path hd ih.0, ih.1)
 
--- if registers have the same lengths and are equal when joined, they are equal
 pub joined_same : (rs qs : List (List Bool)) → map length rs ≡ map length qs → joined rs ≡ joined qs → rs ≡ qs
 joined_same [] [] e h = refl
 joined_same [] (q ∷ qs) e h = cc e
@@ -40,14 +38,12 @@ pub lengths-tdi_bits : (bs : List (List ScanBit)) → map length (map tdi_bits b
 lengths-tdi_bits [] = refl
 lengths-tdi_bits (b ∷ bs) = cons_path (length-map b (λ (x : ScanBit). x.tdi)) (lengths-tdi_bits bs)
 
--- bits after those of the scan are not compared
 pub scan_passes_front : (bits : List ScanBit) (o r : List Bool) → length o ≡ length bits → scan_passes bits (o ++ r) ≡ scan_passes bits o
 scan_passes_front [] [] r e = refl
 scan_passes_front [] (x ∷ o) r e = absurd (omega (arith, e))
 scan_passes_front (b ∷ bits) [] r e = absurd (omega (arith, e))
 scan_passes_front (b ∷ bits) (x ∷ o) r e = ap (λ (t : Bool). bit_passes b.expect x && t) (scan_passes_front bits o r (omega (arith, e)))
 
--- if a scan passes, each of its parts passes
 pub part_passes : (bs : List (List ScanBit)) (rs : List (List Bool)) → map length bs ≡ map length rs →
     scan_passes (joined bs) (joined rs) ≡ true →
     (k : ℕ) (b : List ScanBit) (r : List Bool) → slice_get bs k ≡ Some b → slice_get rs k ≡ Some r → scan_passes b r ≡ true
@@ -68,7 +64,6 @@ part_passes (x ∷ bs) (y ∷ rs) e h (suc k) b r p q =
     (sym (scan_passes-append (joined bs) x (joined rs) y (length-joined bs rs tl)) ∙ h) in
     part_passes bs rs tl both.0 k b r p q
 
--- if a part passes, each of its bits passes
 pub cell_passes : (bs : List ScanBit) (os : List Bool) → scan_passes bs os ≡ true → (c : ℕ) (b : ScanBit) (o : Bool) →
     slice_get bs c ≡ Some b →
     slice_get os c ≡ Some o → bit_passes b.expect o ≡ true
@@ -86,7 +81,6 @@ filled_at zero f c h = absurd (omega arith)
 filled_at (suc n) f zero h = refl
 filled_at (suc n) f (suc c) h = filled_at n (λ k. f (suc k)) c (omega arith)
 
--- if each part passes, the scan passes
 pub parts_pass : (bs : List (List ScanBit)) (rs : List (List Bool)) → map length bs ≡ map length rs →
     ((k : ℕ) (b : List ScanBit) (r : List Bool) → slice_get bs k ≡ Some b → slice_get rs k ≡ Some r → scan_passes b r ≡ true) →
     scan_passes (joined bs) (joined rs) ≡ true

@@ -8,7 +8,6 @@ use Rattle.tap_defs.specs.chain.ScanRows.{AreBitsOf, AreRowsOf, EachHasRoom, Hav
 use Rattle.tap_defs.proofs.chain.RowLemmas.{one_masked, scan_bits-rows}
 
 module _ {bits : List ScanBit} {shifted expected marks : List Bool} (are : AreBitsOf bits shifted expected marks) where
-  -- the scan that is made from the rows has these bits
   pub rows_make : scan_bits shifted expected marks ≡ bits
   rows_make =
       ap (λ (l : List Bool). scan_bits l expected marks) are.tdi
@@ -16,7 +15,6 @@ module _ {bits : List ScanBit} {shifted expected marks : List Bool} (are : AreBi
       ∙ ap (λ (l : List Bool). scan_bits (tdi_bits bits) (tdo_bits bits) l) are.mask
       ∙ scan_bits-rows bits
 
-  -- the rows are as long as the scan
   pub shifted_length : length shifted ≡ length bits
   shifted_length = ap (λ (l : List Bool). length l) are.tdi ∙ length-map bits (λ b. b.tdi)
 
@@ -26,20 +24,17 @@ module _ {bits : List ScanBit} {shifted expected marks : List Bool} (are : AreBi
   pub marks_length : length marks ≡ length bits
   marks_length = ap (λ (l : List Bool). length l) are.mask ∙ length-map bits (λ b. is_some b.expect)
 
-  -- the rows have the same length
   pub expected_same : length expected ≡ length shifted
   expected_same = expected_length ∙ sym shifted_length
 
   pub marks_same : length marks ≡ length shifted
   marks_same = marks_length ∙ sym shifted_length
 
-  -- wherever the row of expected bits has a 1, the row of marks has a 1
   pub rows_masked : (i : ℕ) → get_or expected i false ≡ true → get_or marks i false ≡ true
   rows_masked i one =
       ap (λ (l : List Bool). get_or l i false) are.mask
       ∙ one_masked bits i (sym (ap (λ (l : List Bool). get_or l i false) are.tdo) ∙ one)
 
--- if `Fits` implies `Holds` and each row has a room that fits, each row has a room that holds
 pub each_room : {Fits Holds : ℕ → Type 0} {rows : ScanRows} → ((room : ℕ) → Fits room → Holds room)
     → EachHasRoom Fits rows → EachHasRoom Holds rows
 each_room {Fits} {Holds} {rows} holds each = record {
@@ -48,7 +43,6 @@ each_room {Fits} {Holds} {rows} holds each = record {
   mask = holds rows.mask.now.room each.mask;
 }
 
--- rows with room for a scan have room for its stored rows
 pub room_for : (bits : List ScanBit) (stored : StoredRows) (rows : ScanRows) → AreRowsOf bits stored
     → EachHasRoom (λ room. length bits ≤ room) rows → HaveRoomFor stored rows
 room_for bits stored rows are each = record {

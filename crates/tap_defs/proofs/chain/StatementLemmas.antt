@@ -1,4 +1,4 @@
--- The tokens of a scan form its statement.
+-- Proof that the tokens of a scan form its statement.
 use Rattle.std.proofs.Common.{◌≡◌, ℕ, ◌^◌, ◌<◌, Bool, true, false, cond, ◌&&◌, ◌||◌, List, [], ◌∷◌, ◌++◌, length, map, Option, Some, None, refl, sym}
 use Rattle.std.proofs.Common.{◌∙◌, ap, append_assoc}
 use Rattle.std.proofs.lemmas.Bool.{lt-ltb, and_from}
@@ -31,7 +31,7 @@ command_is : (ir : Bool) → scan_command (command_word ir) ≡ Some ir
 command_is true = refl
 command_is false = refl
 
--- a field with the digits of these bits, and the lemmas that tokens form such fields
+-- a field with the digits of these bits
 abbrev field : List ℕ → List Bool → Field
 field name bits = record { name = name; digits = hex_text bits }
 
@@ -79,7 +79,6 @@ fields_are long bits b =
     (λ (o : Option (List Field)). option_map
     (λ fields. field (codes "TDI") (tdi_bits bits) ∷ fields) o) (compare_fields_are long bits b)
 
--- the digits of a row of a scan are read as this row
 digits_are : (bits : List ScanBit) (f : ScanBit → Bool) → field_bits (length bits) (hex_text (map f bits)) ≡ Some (map f bits)
 digits_are bits f = ap (λ (n : ℕ). field_bits n (hex_text (map f bits))) (sym (length-map bits f)) ∙ field_bits-hex_text (map f bits)
 

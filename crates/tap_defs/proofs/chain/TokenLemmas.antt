@@ -14,11 +14,11 @@ use Rattle.tap_defs.specs.chain.Scan.{ScanBit, Scan, tdi_bits, tdo_bits, mask_bi
 use Rattle.tap_defs.specs.chain.Text.{command_word, gap, broken, laid, compare_text, form}
 use Rattle.tap_defs.specs.chain.SvfTokens.{Token, Word, Open, Close, End, is_svf_blank, ended, tokens_from}
 
--- the byte belongs to a word
+-- true if the byte belongs to a word
 abbrev pub is_solid : ℕ → Bool
 is_solid b = not (is_svf_blank b) && (not (b == 40) && (not (b == 41) && not (b == 59)))
 
--- the byte begins no comment
+-- true if the byte does not begin a comment
 abbrev pub is_bare : ℕ → Bool
 is_bare b = not (b == 33) && not (b == 47)
 
@@ -109,7 +109,6 @@ digit_plain b h =
 pub decimal_plain : (n : ℕ) → n < 2 ^ 64 → list_all is_plain (decimal n) ≡ true
 decimal_plain n h = all_by is_ascii_digit is_plain digit_plain (decimal n) (decimal_digits n h)
 
--- a byte of a word is added to the part of the word that has been read
 solid_goes_on : (word : List ℕ) (b : ℕ) (rest : List ℕ) → is_solid b ≡ true →
     tokens_from word (b ∷ rest) ≡ tokens_from (word ++ b ∷ []) rest
 unfolding tokens_from
@@ -147,7 +146,8 @@ abbrev pub run_on : List (List ℕ) → List ℕ
 run_on [] = []
 run_on (w ∷ words) = w ++ run_on words
 
--- the words into which line ends divide the digits, if a word has begun and its line has this room
+-- The words into which line ends divide the digits. `word` is the part of a word before them, and its line has room for
+-- `room` more digits.
 abbrev pub pieces : List ℕ → ℕ → List ℕ → List (List ℕ)
 pieces word room [] = word ∷ []
 pieces word zero (d ∷ digits) = word ∷ pieces (d ∷ []) 63 digits
@@ -175,7 +175,6 @@ pub worded-append : (words : List (List ℕ)) (ts us : List Token) → worded wo
 worded-append [] ts us = refl
 worded-append (w ∷ words) ts us = ap (λ (r : List Token). Word w ∷ r) (worded-append words ts us)
 
--- if a word has begun, the tokens of laid-out digits and a closing parenthesis are the words of the digits and the parenthesis
 pieces_read : (word : List ℕ) (room : ℕ) (digits rest : List ℕ) → 0 < length word → list_all is_solid digits ≡ true →
     tokens_from word (broken room digits ++ 41 ∷ rest) ≡ worded (pieces word room digits) (Close ∷ tokens_from [] rest)
 unfolding tokens_from
@@ -199,7 +198,6 @@ laid_read true (d ∷ digits) rest some h =
     solid_goes_on [] d (broken 63 digits ++ 41 ∷ rest) both.0 ∙ pieces_read (d ∷ []) 63 digits rest (omega arith) both.1
 laid_read false digits rest some h = word_goes_on [] digits (41 ∷ rest) h ∙ word_ends digits (Close ∷ tokens_from [] rest) some
 
--- the tokens of a field's digits and its closing parenthesis are the words of the digits and the parenthesis
 bits_read : (long : Bool) (bits : List Bool) (rest : List ℕ) → 0 < length bits →
     tokens_from [] (laid long (hex_text bits) ++ 41 ∷ rest) ≡ worded (words_of long (hex_text bits)) (Close ∷ tokens_from [] rest)
 bits_read long bits rest h = laid_read long (hex_text bits) rest (hex_text_some bits h) (all_solid (hex_text bits) (hex_text_plain bits))
@@ -240,7 +238,6 @@ field_tokens-append long name bits ts us =
     ap (λ (r : List Token). Word name ∷ Open ∷ r)
     (worded-append (words_of long (hex_text bits)) (Close ∷ ts) us)
 
--- the tokens of the text of MASK, which may be followed by any text
 mask_read : (long : Bool) (bits : List Bool) (rest : List ℕ) → 0 < length bits →
     tokens_from [] (gap long ∷ codes "MASK (" ++ (laid long (hex_text bits) ++ (codes ");" ++ rest)))
     ≡ field_tokens long (codes "MASK") bits (End ∷ tokens_from [] rest)
@@ -257,7 +254,6 @@ tdo_read long bits rest tokens h e =
     ∙ ap (λ (r : List Token). Word (codes "TDO") ∷ Open ∷ r)
     (bits_read long bits rest h ∙ ap (λ (r : List Token). worded (words_of long (hex_text bits)) (Close ∷ r)) e)
 
--- the tokens of the text from the digits of TDI on
 compare_read : (long : Bool) (bits : List ScanBit) (b : Bool) (rest : List ℕ) → 0 < length bits →
     tokens_from [] (laid long (hex_text (tdi_bits bits)) ++ (compare_text long bits b ++ 10 ∷ rest))
     ≡ worded (words_of long (hex_text (tdi_bits bits))) (Close ∷ (compare_tokens long bits b ++ End ∷ tokens_from [] rest))
@@ -299,7 +295,6 @@ command-append : (ir : Bool) (more rest : List ℕ) → (command_word ir ++ (32 
 command-append true more rest = refl
 command-append false more rest = refl
 
--- the tokens of a scan's text, in one line or in several lines, are `scan_tokens` and the semicolon
 pub form_read : (long : Bool) (scan : Scan) (rest : List ℕ) → 0 < length scan.bits → length scan.bits < 2 ^ 64 →
     tokens_from [] (form long scan ++ 10 ∷ rest) ≡ scan_tokens long scan ++ End ∷ tokens_from [] rest
 unfolding tokens_from

@@ -15,7 +15,7 @@ use Rattle.tap_defs.proofs.chain.ListLemmas.{cons_path}
 use Rattle.tap_defs.proofs.chain.HeadLemmas.{part_tap}
 use Rattle.tap_defs.proofs.chain.RunLemmas.{run-append}
 
--- the instruction or the latches change when this state is entered
+-- true if the instruction or the latches change when this state is entered
 abbrev pub changes : TapState → Bool
 changes TestLogicReset = true
 changes UpdateIR = true
@@ -68,7 +68,8 @@ shown_step t (n ∷ chain) pins free tms tdi h e =
     cons_path (part_shown n.logic (pins 0) (free 0) tms tdi n.state (ap (λ (u : TapState). changes (next_state u tms)) h.0 ∙ e))
     (shown_step t chain (λ k. pins (suc k)) (λ k. free (suc k)) tms (part_tdo (free 0) tdi n.state) h.1 e)
 
--- the path of the controllers through some clocks, and the test that nothing visible changes on it
+-- `tap_after_all` is the state to which these clocks lead the controllers. `is_decided` says whether nothing visible
+-- changes on the way.
 abbrev pub tap_after_all : TapState → List Clock → TapState
 tap_after_all t [] = t
 tap_after_all t (c ∷ cs) = tap_after_all (next_state t c.tms) cs
@@ -77,7 +78,7 @@ abbrev pub is_decided : TapState → List Clock → Bool
 is_decided t [] = true
 is_decided t (c ∷ cs) = not (changes (next_state t c.tms)) && is_decided (next_state t c.tms) cs
 
--- each of these moments has the same visible states
+-- all of these moments have the visible states `s`
 abbrev pub AllAre : List PinState → List (List PinState) → Type 0
 AllAre s [] = Unit {0}
 AllAre s (x ∷ xs) = (x ≡ s) × AllAre s xs
@@ -114,7 +115,7 @@ clear_run wiring t (c ∷ cs) free chain h e =
       idle = r.idle;
     }
 
--- shift clocks change nothing visible, and lead to Exit1
+-- Shift clocks change nothing visible, and lead to the Exit1 state.
 shifts_clear : (t u : TapState) → next_state t false ≡ t → next_state t true ≡ u → changes t ≡ false → changes u ≡ false →
     (b : ScanBit) (bits : List ScanBit) → (is_decided t (shift_clocks (b ∷ bits)) ≡ true) × (tap_after_all t (shift_clocks (b ∷ bits)) ≡ u)
 shifts_clear t u stay leave ct cu b [] = (ap (λ (x : Bool). not x && true) (ap changes leave ∙ cu), leave)
@@ -125,7 +126,7 @@ shifts_clear t u stay leave ct cu b (c ∷ bits) =
       ap (λ (x : TapState). tap_after_all x (shift_clocks (c ∷ bits))) stay ∙ ih.1,
     )
 
--- the visible states during a scan: the old ones until its update, and the new ones from there on
+-- The visible states during a scan: the old ones before its update, and the new ones from the update on.
 pub record Switches (moments : List (List PinState)) (chain next : List ChainPart) : Type 0 where
   pub old : List (List PinState)
   pub old_are : AllAre (pin_states chain) old

@@ -18,13 +18,14 @@ use Rattle.tap_defs.specs.chain.Codes.{instructs}
 use Rattle.tap_defs.specs.chain.Text.{svf_text}
 use Rattle.tap_defs.specs.board.TestRows.{TestRow, quiet_row, code_row, row_bit, expect_bit, observing_driver, observed_count, code_width}
 
--- A data scan: the row `now` that it shifts in, and the row `before` that the scan before it shifted in. The row `before`
--- is in the latches during the scan, and its bits are compared.
+-- A data scan. It shifts in the row `now` and compares the row `before`. The previous scan shifted in the row `before`,
+-- which is in the latches during this scan.
 pub record RowScan : Type 0 where
   pub now : TestRow
   pub before : TestRow
 
--- the bits of one part: one for each boundary cell of a described part, cell 0 first, or one for any other part
+-- The bits of one part in a data scan: a bit for each boundary cell of a described part, cell 0 first, or one bit for
+-- the bypass register of any other part.
 abbrev pub part_bits : RawBoard → RowScan → ℕ → PartKind → List ScanBit
 part_bits board scan part (Described device) =
     filled device.boundary
@@ -44,7 +45,7 @@ bits_by_part board scan part (p ∷ parts) = part_bits board scan part p.kind �
 abbrev pub row_bits : RawBoard → RowScan → List (List ScanBit)
 row_bits board scan = bits_by_part board scan 0 board.chain
 
--- the data scan with these bits
+-- the data scan of a row: the bits of all parts, joined
 abbrev pub scan_of_row : RawBoard → RowScan → Scan
 scan_of_row board scan = record { ir = false; bits = joined (row_bits board scan) }
 
@@ -52,8 +53,9 @@ scan_of_row board scan = record { ir = false; bits = joined (row_bits board scan
 abbrev pub row_clocks : RawBoard → List RowScan → List Clock
 row_clocks board scans = all_clocks (map (scan_of_row board) scans)
 
--- The data scans of a pass from row `j` on, of which `more + 1` are left. Each scan shifts in a row and compares the row before it. The
--- last scan shifts in the quiet row.
+-- The last `more + 1` data scans of a pass. The first of them shifts in row `j`, or the quiet row if it is the last
+-- scan of the pass. Each scan compares the row that the previous scan shifted in, which is `before` for the first. The
+-- quiet row enables no controlled driver and has no expected bits.
 abbrev pub pass_scans : (ℕ → TestRow) → ℕ → ℕ → TestRow → List RowScan
 pass_scans rows zero j before = record { now = quiet_row; before = before } ∷ []
 pass_scans rows (suc more) j before = record { now = rows j; before = before } ∷ pass_scans rows more (suc j) (rows j)
@@ -64,8 +66,8 @@ abbrev pub row_scans : (List Ctl → ℕ → TestRow) → ℕ → List (List Ctl
 row_scans rows width [] = []
 row_scans rows width (pass ∷ passes) = pass_scans (rows pass) width 0 quiet_row ++ row_scans rows width passes
 
--- The code of SAMPLE/PRELOAD, or of PRELOAD if the description follows the 2001 edition. A part without a description has a code of ones,
--- which means BYPASS.
+-- The code of SAMPLE/PRELOAD, or of PRELOAD if the description follows the 2001 edition of the standard. A part without
+-- a description has a code of ones, which means BYPASS.
 abbrev pub preload_code : PartKind → List Bool
 preload_code (Described device) = map bit_of device.sample
 preload_code (Bypass n) = replicate n true
@@ -87,11 +89,11 @@ board_scans board scans =
     ∷ instructs (map (λ part. extest_code part.kind) board.chain)
     ∷ map (scan_of_row board) scans
 
--- the scans of the test that has these passes, with codes of `width` bits
+-- the scans of the test with these passes and with codes of `width` bits
 abbrev pub test_scans : RawBoard → List (List Ctl) → ℕ → List Scan
 test_scans board passes width = board_scans board (row_scans (code_row board passes) width passes)
 
--- the SVF text of these scans
+-- the SVF text of the test with these passes
 abbrev pub pass_text : RawBoard → List (List Ctl) → ℕ → List ℕ
 pass_text board passes width = svf_text (test_scans board passes width)
 
@@ -99,13 +101,14 @@ pass_text board passes width = svf_text (test_scans board passes width)
 abbrev pub row_now : (ℕ → TestRow) → ℕ → ℕ → TestRow
 row_now rows width j = cond (nat_lt j width) (rows j) quiet_row
 
--- The row that scan `j` of a pass compares: row `j - 1`. The first scan has the quiet row, of which nothing is compared.
+-- The row that scan `j` of a pass compares: row `j - 1`. The first scan compares the quiet row, which has no expected
+-- bits.
 abbrev pub row_before : (ℕ → TestRow) → ℕ → TestRow
 row_before rows zero = quiet_row
 row_before rows (suc j) = rows j
 
--- The number of scans of a test, and the place of each. The first three come before the passes. Each pass has a scan for each row and one
--- for the quiet row.
+-- `scans` are the scans of a test, each at its place. Three scans come before the passes. Each pass has a scan for each
+-- row and one for the quiet row.
 pub record AreTestScans (board : RawBoard) (passes : List (List Ctl)) (width : ℕ) (scans : List Scan) : Type 0 where
   pub count : length scans ≡ 3 + length passes * suc width
   pub preload : slice_get scans 0 ≡ Some (instructs (map (λ part. preload_code part.kind) board.chain))
@@ -121,8 +124,8 @@ pub record AreTestScans (board : RawBoard) (passes : List (List Ctl)) (width : �
             (code_row board passes pass) j;
       }))
 
--- the data scans of the board's test after the EXTEST codes: those of the board's passes, with the code width for the nets that these
--- passes observe
+-- the data scans of the board's test after the EXTEST codes: those of the board's passes, with the smallest code width
+-- that is enough for the observed nets
 abbrev pub svf_row_scans : RawBoard → List RowScan
 svf_row_scans board =
     let passes : List (List Ctl) = passes_of board in
@@ -132,19 +135,20 @@ svf_row_scans board =
 abbrev pub svf_scans : RawBoard → List Scan
 svf_scans board = board_scans board (svf_row_scans board)
 
--- the text of the board's test
+-- the SVF text of the board's test
 abbrev pub board_text : RawBoard → List ℕ
 board_text board = svf_text (svf_scans board)
 
--- the setting observes the net, so the net is a walk net
+-- A net is a walk net of a setting if the setting observes it.
 abbrev pub is_walked : RawBoard → List Ctl → Net → Bool
 is_walked board walk net = is_some (observing_driver board (holds walk) net)
 
--- the pass observes some net
+-- true if the pass observes some net
 abbrev pub observes_some : RawBoard → List Ctl → Bool
 observes_some board pass = list_any (is_walked board pass) board.nets
 
--- row `j` of the walking test: the walk net at place `j` carries 1, and the other walk nets carry 0
+-- Row `j` of the walking test. The walk nets are numbered from 0 in net order. Walk net number `j` carries 1, and the
+-- other walk nets carry 0.
 abbrev pub walk_row : RawBoard → List Ctl → ℕ → TestRow
 walk_row board walk j = record { setting = holds walk; carried = λ n. Some (count_by (is_walked board walk) (take n board.nets) == j) }
 
@@ -152,6 +156,6 @@ walk_row board walk j = record { setting = holds walk; carried = λ n. Some (cou
 abbrev pub walk_row_scans : RawBoard → List Ctl → List RowScan
 walk_row_scans board walk = row_scans (walk_row board) (count_by (is_walked board walk) board.nets) (walk ∷ [])
 
--- the text of the walking test
+-- the SVF text of the walking test for this setting
 abbrev pub walk_text : RawBoard → List Ctl → List ℕ
 walk_text board walk = svf_text (board_scans board (walk_row_scans board walk))

@@ -1,4 +1,4 @@
--- The promise of a test of a board.
+-- What an SVF text must do to be harmless on a board, and to be a test of the board.
 use Rattle.std.specs.Prelude.{◌≡◌, ℕ, List, Some}
 use Rattle.board_defs.specs.declared.board.RawBoard.{RawBoard}
 use Rattle.tap_defs.specs.chain.Run.{Clock}
@@ -7,15 +7,16 @@ use Rattle.tap_defs.specs.board.FaultSet.{FaultSet, no_faults, IsObservable, IsN
 use Rattle.tap_defs.specs.board.OnBoard.{PassOnBoard, FailOnBoard}
 use Rattle.tap_defs.specs.board.Quiet.{IsQuiet}
 
--- The text may be applied to the board: it has a meaning, passes on the board without faults, and is quiet under every fault set.
+-- The text may be applied to the board. It has a meaning, passes on the board without faults, and is quiet under every
+-- fault set: drivers never conflict, and unused cells keep their safe values.
 pub record IsHarmless (board : RawBoard) (text : List ℕ) : Type 0 where
   pub clocks : List Clock
   pub means : meaning text ≡ Some clocks
   pub passes : PassOnBoard board no_faults clocks
   pub quiet : IsQuiet board clocks
 
--- The text is a test of the board: it has a meaning, passes on the board without faults, is quiet under every fault set, and fails under
--- every nonempty observable fault set.
+-- The text is a test of the board. It meets all conditions of `IsHarmless`, and fails under every nonempty observable
+-- fault set.
 pub record IsBoardTest (board : RawBoard) (text : List ℕ) : Type 0 where
   pub clocks : List Clock
   pub means : meaning text ≡ Some clocks

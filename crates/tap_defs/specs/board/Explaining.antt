@@ -1,4 +1,4 @@
--- The fault sets of single faults, the logs of a test, and when faults explain a log.
+-- The fault sets of single faults, the shape of a test's logs, and the condition under which faults explain a log.
 use Rattle.std.specs.Prelude.{◌≡◌, ◌<◌, ℕ, suc, ◌+◌, ◌*◌, ◌==◌, Bool, true, cond, not, ◌&&◌, ◌||◌, List, [], ◌∷◌, length, filter, count_by, drop, Option, Some, None, is_some, slice_get, option_and_then, All}
 use Rattle.std.specs.List.{sum_by}
 use Rattle.board_defs.specs.declared.device.RawDevice.{RawDevice}
@@ -22,14 +22,14 @@ use Rattle.tap_defs.specs.board.TestRows.{TestRow, quiet_row, expect_bit}
 use Rattle.tap_defs.specs.board.BoardScans.{RowScan, row_bits, scan_of_row, board_scans, row_now, svf_row_scans}
 use Rattle.tap_defs.specs.board.RowCaptures.{row_captured, AgreeWhereCompared}
 
--- the kind of a short of the nets `a` and `b`
+-- the kind of a short of the nets `a` and `b`; First makes `a` dominant, and Second makes `b` dominant
 abbrev pub short_kind : ℕ → ℕ → Kind → ShortKind
 short_kind a b And = AndShort
 short_kind a b Or = OrShort
 short_kind a b First = Dominant a
 short_kind a b Second = Dominant b
 
--- The fault set of a single fault. The short, if there is one, has number 0.
+-- The fault set of a single fault. Shorts are numbered, and the only short of this set has number 0.
 abbrev pub set_of : Single → FaultSet
 set_of (StuckNet net value) = record no_faults { stuck = λ n. cond (n == net) (Some value) None }
 set_of (OpenPin pin value) = record no_faults { opened = λ n i. cond ((n == pin.net) && (i == pin.place)) (Some value) None }
@@ -40,17 +40,19 @@ abbrev pub uncompared : List ScanBit → List ScanBit
 uncompared [] = []
 uncompared (bit ∷ bits) = record bit { expect = None } ∷ uncompared bits
 
--- the bits of a scan, with a row of a log in place of the expected bits
+-- The bits of a scan with a row of a log as the expected bits. A bit that the scan does not compare, or that is past
+-- the end of the row, is not compared.
 abbrev pub bits_by_log : List ScanBit → List Bool → List ScanBit
 bits_by_log [] row = []
 bits_by_log (bit ∷ bits) [] = uncompared (bit ∷ bits)
 bits_by_log (bit ∷ bits) (logged ∷ row) = record bit { expect = cond (is_some bit.expect) (Some logged) None } ∷ bits_by_log bits row
 
--- the scan is an SDR statement that compares some bit
+-- true if the scan is an SDR statement that compares some bit
 abbrev pub is_compared : Scan → Bool
 is_compared scan = not scan.ir && compares scan.bits
 
--- The scans, with the rows of a log in place of the expected bits of the compared SDR statements, in order. No other bits are compared.
+-- The scans with a log as the expected bits. Each compared SDR statement uses the next row of the log. All other
+-- statements compare nothing.
 abbrev pub scans_by_log : List Scan → List (List Bool) → List Scan
 scans_by_log [] log = []
 scans_by_log (scan ∷ scans) [] = record scan { bits = uncompared scan.bits } ∷ scans_by_log scans []
@@ -58,7 +60,7 @@ scans_by_log (scan ∷ scans) (row ∷ log) =
     cond (is_compared scan) (record scan { bits = bits_by_log scan.bits row } ∷ scans_by_log scans log)
     (record scan { bits = uncompared scan.bits } ∷ scans_by_log scans (row ∷ log))
 
--- The log has the shape of the logs of a test with these data scans: a row for each compared SDR statement, and in each row a bit for each
+-- The log has the shape of a log of this test: a row for each compared SDR statement, and in each row a bit for each
 -- position of a data scan.
 pub record HasShape (board : RawBoard) (scans : List RowScan) (log : List (List Bool)) : Type 0 where
   pub rows : length log ≡ count_by is_compared (board_scans board scans)
@@ -74,7 +76,7 @@ pub record ExplainedBy (board : RawBoard) (faults : FaultSet) (scans : List RowS
 abbrev pub Explains : RawBoard → Single → List (List Bool) → Type 0
 Explains board single log = ExplainedBy board (set_of single) (svf_row_scans board) log
 
--- wherever these scans compare a bit, the scan's row of the log has the expected bit
+-- true if each row of the log has the expected bit wherever its scan compares a bit; row `x` belongs to scan `x`
 abbrev pub are_expected : List Scan → List (List Bool) → Bool
 are_expected [] log = true
 are_expected (scan ∷ scans) [] = true
@@ -85,7 +87,7 @@ pub record IsExpected (board : RawBoard) (scans : List RowScan) (log : List (Lis
   pub shape : HasShape board scans log
   pub bits : are_expected (filter is_compared (board_scans board scans)) log ≡ true
 
--- the data scans that compare something, in order; row `x` of a log belongs to the `x`th of these scans
+-- the data scans that compare some bit, in order; row `x` of a log belongs to scan `x` of this list
 abbrev pub compared_scans : RawBoard → List RowScan → List RowScan
 compared_scans board scans = filter (λ scan. is_compared (scan_of_row board scan)) scans
 
@@ -95,7 +97,7 @@ pub record CompareRows (rows : List Ctl → ℕ → TestRow) (width : ℕ) (pass
   pub each : (x : ℕ) (pass : List Ctl) (j : ℕ) → slice_get passes x ≡ Some pass → j < width →
       slice_get scans (x * width + j) ≡ Some (record { now = row_now (rows pass) width (suc j); before = rows pass j })
 
--- Each scan compares the row that the scan before it shifted in. The first scan compares the given row.
+-- Each scan compares the row that the previous scan shifted in. The first scan compares `row`.
 abbrev pub Follow : TestRow → List RowScan → Type 0
 Follow row [] = Unit {0}
 Follow row (scan ∷ scans) = (scan.before ≡ row) × Follow scan.now scans
@@ -105,8 +107,8 @@ pub record AreInTurn (board : RawBoard) (scans : List RowScan) : Type 0 where
   pub follow : Follow quiet_row scans
   pub safe : (x : ℕ) (scan : RowScan) → slice_get (compared_scans board scans) x ≡ Some scan → IsSafe board scan.before.setting
 
--- Wherever a scan compares a bit, its row of the log has the bit that the cells capture under these faults, whatever the free bits are. The
--- cells capture while the row before the scan is in the latches.
+-- Wherever a scan compares a bit, its row of the log has the bit that the cells capture under these faults, whatever
+-- the free bits are. The cells capture while `scan.before` is in the latches.
 abbrev pub IsCapturedBy : RawBoard → FaultSet → List RowScan → List (List Bool) → Type 0
 IsCapturedBy board faults scans log =
     (x : ℕ) (scan : RowScan) (logged : List Bool) (choice : Choice)
@@ -125,7 +127,8 @@ AgreeOn board scans log other =
 abbrev pub cell_position : RawBoard → ℕ → ℕ → ℕ
 cell_position board part cell = sum_by (λ p. data_length p.kind) (drop (suc part) board.chain) + cell
 
--- the net and the place in it of the pin that the cell reads, or None if the cell reads no pin of a net
+-- The place of the pin that the cell reads, or None if the cell reads no pin of a net. A place names the net and the
+-- pin's position in the net.
 abbrev pub read_place : RawBoard → ℕ → RawDevice → ℕ → Option Place
 read_place board part device cell =
     option_and_then

@@ -3,26 +3,28 @@ use Rattle.std.specs.Prelude.{◌≡◌, ◌≢◌, ◌⊎◌, ℕ, Bool, Option
 use Rattle.board_defs.specs.declared.board.RawBoard.{RawBoard}
 use Rattle.board_defs.specs.Coverage.{IsCovered, ArePaired, IsTestedDriver, IsTestedReceiver}
 
--- The kind of a short, which decides the bit of its nets: the And or the Or of the bits to which they are driven, or the bit of the
--- dominant net.
+-- The kind of a short, which decides the bit of its nets. The bit is the And or the Or of the bits to which the nets
+-- are driven, or the bit of the dominant net.
 pub data ShortKind : Type 0 where
   And : ShortKind
   Or : ShortKind
   Dominant : ℕ → ShortKind
 
--- The constant of each stuck net; the constant of each open pin, given by its net and its place there; the short of each shorted net, as a
--- number; and the kind of each short. So a net is stuck at one constant, a pin is open at one constant, and shorts share no net.
+-- A set of faults: the constant of each stuck net, the constant of each open pin, the number of the short that each
+-- shorted net belongs to, and the kind of each short. `opened` takes the number of a net and a place in the net. A net
+-- is stuck at only one constant, and is in only one short.
 pub record FaultSet : Type 0 where
   pub stuck : ℕ → Option Bool
   pub opened : ℕ → ℕ → Option Bool
   pub short : ℕ → Option ℕ
   pub kind : ℕ → ShortKind
 
--- the empty set
+-- the empty set of faults
 abbrev pub no_faults : FaultSet
 no_faults = record { stuck = λ n. None; opened = λ n i. None; short = λ n. None; kind = λ k. And }
 
--- No stuck net is in a short. Each short has two or more nets, and all of them are covered. A dominant net belongs to its short.
+-- The faults are a fault set of the board. No stuck net is in a short. Each short has two or more nets, and all of them
+-- are covered. A dominant net belongs to its short.
 pub record IsFaultSet (board : RawBoard) (faults : FaultSet) : Type 0 where
   pub disjoint : (n : ℕ) (v : Bool) → faults.stuck n ≡ Some v → faults.short n ≡ None
   pub several : (n k : ℕ) → faults.short n ≡ Some k → (m : ℕ) × (m ≢ n) × (faults.short m ≡ Some k)

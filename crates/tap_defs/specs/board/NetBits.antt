@@ -1,4 +1,5 @@
--- The bits of a board's nets at one moment, under any faults, and the bits that the boundary cells capture.
+-- The bits of a board's nets at one moment, under any faults, and the bits that the boundary cells capture at that
+-- moment.
 use Rattle.std.specs.Prelude.{ℕ, suc, ◌==◌, Bool, true, false, cond, not, ◌&&◌, List, [], ◌∷◌, Option, Some, None, slice_get, unwrap_or, option_and_then, option_map}
 use Rattle.std.specs.List.{list_any, list_all, filter_map}
 use Rattle.board_defs.specs.declared.device.Control.{Control}
@@ -17,7 +18,7 @@ use Rattle.tap_defs.specs.chain.Part.{PinState, FreeBits}
 use Rattle.tap_defs.specs.chain.ShiftRegister.{filled}
 use Rattle.tap_defs.specs.board.FaultSet.{ShortKind, And, Or, Dominant, FaultSet}
 
--- the instruction is Extest
+-- true if the instruction is Extest
 abbrev pub is_extest : Instruction → Bool
 is_extest Extest = true
 is_extest Sample = false
@@ -25,30 +26,32 @@ is_extest Bypass = false
 is_extest Idcode = false
 is_extest Other = false
 
--- the part has the instruction Extest
+-- true if the part has the instruction Extest
 abbrev pub in_extest : List PinState → ℕ → Bool
 in_extest states part = unwrap_or (option_map (λ state. is_extest state.current) (slice_get states part)) false
 
--- the update latch of a cell
+-- the update latch of a cell, or 0 if there is no such cell
 abbrev pub latch : List PinState → ℕ → ℕ → Bool
 latch states part cell = unwrap_or (option_and_then (λ state. slice_get state.latches cell) (slice_get states part)) false
 
--- there is no control, or the latch of the control's cell differs from the disable value
+-- A driver is on if it has no control, or if the latch of its control cell differs from the disable value.
 abbrev pub is_on_by : List PinState → ℕ → Option Control → Bool
 is_on_by states part None = true
 is_on_by states part (Some control) = not (is_same (latch states part control.cell) control.disable)
 
--- the driver with this driving entry is live: its part has the instruction Extest, and it has no control or its control is on
+-- A driver is live if its part has the instruction Extest and the driver is on. The driver is given by its driving
+-- entry.
 abbrev pub live_entry : List PinState → ℕ → Option Cell → Bool
 live_entry states part None = false
 live_entry states part (Some cell) = in_extest states part && is_on_by states part cell.ctl
 
--- The pin at this port bit is a live driver. In the model, a pin of a part without a description is not a driver.
+-- True if the pin at this port bit is a live driver. In the model, a pin of a part without a description is not a
+-- driver.
 abbrev pub live_where : RawBoard → List PinState → Option PinAt → Bool
 live_where board states None = false
 live_where board states (Some at) = live_entry states at.part (entry_at board at)
 
--- the pin is a live driver: its part has the instruction Extest, and the driver has no control or its control is on
+-- true if the pin is a live driver
 abbrev pub live : RawBoard → List PinState → NetPin → Bool
 live board states pin = live_where board states pin.at
 
@@ -57,24 +60,25 @@ abbrev pub driver_bit : RawBoard → List PinState → Option PinAt → Bool
 driver_bit board states None = false
 driver_bit board states (Some at) = unwrap_or (option_map (λ cell. latch states at.part cell.num) (entry_at board at)) false
 
--- the part of the pin has the instruction Extest or is not described
+-- true if the part of the pin has the instruction Extest or is not described
 abbrev pub extest_where : List PinState → Option PinAt → Bool
 extest_where states None = true
 extest_where states (Some at) = in_extest states at.part
 
--- the net is not guarded, and every described part with a pin on it has the instruction Extest
+-- A net is ruled if it is not guarded and every described part with a pin on it has the instruction Extest. The model
+-- does not say what drives any other net.
 abbrev pub ruled : RawBoard → List PinState → Net → Bool
 ruled board states net = not (guarded board net) && list_all (λ pin. extest_where states pin.at) net.pins
 
--- The driving of a net: unknown, since the net is not ruled; by no driver; by one live driver, with its place and its bit; or by several
--- live drivers.
+-- What drives a net: unknown, because the net is not ruled; no driver; one live driver, with its place and its bit; or
+-- several live drivers.
 pub data Feeding : Type 0 where
   Unruled : Feeding
   Undriven : Feeding
   Driven : ℕ → Bool → Feeding
   Contended : Feeding
 
--- the driving of a net after one more pin, which counts only if it is live
+-- the driving of a net after one more pin is taken into account; a pin that is not live changes nothing
 abbrev pub with_pin : Bool → ℕ → Bool → Feeding → Feeding
 with_pin false place bit feeding = feeding
 with_pin true place bit Undriven = Driven place bit
@@ -98,7 +102,7 @@ abbrev pub fed_unless : Option Bool → Bool → Option Bool
 fed_unless None bit = Some bit
 fed_unless (Some constant) bit = None
 
--- the bit that the net is fed: that of its only live driver, if this driver is not open
+-- the bit that a net is fed: the bit of its only live driver, if the pin of this driver is not open
 abbrev pub fed : FaultSet → ℕ → Feeding → Option Bool
 fed faults n Unruled = None
 fed faults n Undriven = None
@@ -110,7 +114,7 @@ abbrev pub held_if : Option Bool → Option Bool → Option Bool
 held_if None pull = None
 held_if (Some constant) pull = pull
 
--- the pull that holds the net, if it has no live driver, or only one and this one is open
+-- the pull that holds the net; it holds a net that has no live driver, or whose only live driver is open
 abbrev pub held : FaultSet → ℕ → Option Bool → Feeding → Option Bool
 held faults n pull Unruled = None
 held faults n pull Undriven = pull
@@ -134,7 +138,7 @@ bit_or_else (Some first) second = Some first
 abbrev pub unshorted_bit : FaultSet → ℕ → Option Bool → Feeding → Option Bool
 unshorted_bit faults n pull feeding = bit_or_else (fed faults n feeding) (bit_or_else (held faults n pull feeding) (cut faults n feeding))
 
--- a net's number, with a value that belongs to the net
+-- a value that belongs to a net, together with the net's number
 abbrev pub OfNet : Type 0 → Type 0
 OfNet A = ℕ × A
 
@@ -147,52 +151,54 @@ abbrev pub bit_at_net : ℕ → List (OfNet Bool) → Option Bool
 bit_at_net d [] = None
 bit_at_net d (bit ∷ bits) = cond (bit.0 == d) (Some bit.1) (bit_at_net d bits)
 
--- The combined bit of some nets, by the kind of their short. If the dominant net is not among them, the And of their bits is taken.
+-- The combined bit of some nets, according to the kind of their short. If the dominant net is not among them, the
+-- result is the And of their bits.
 abbrev pub combined : ShortKind → List (OfNet Bool) → Bool
 combined And bits = all_bits bits
 combined Or bits = list_any (λ bit. bit.1) bits
 combined (Dominant d) bits = unwrap_or (bit_at_net d bits) (all_bits bits)
 
--- the net is in short `k`
+-- true if the net is in short `k`
 abbrev pub is_in_short : Option ℕ → ℕ → Bool
 is_in_short None k = false
 is_in_short (Some j) k = j == k
 
--- the nets of short `k`, from net `n` on
+-- the nets of short `k` among these nets, the first of which has number `n`
 abbrev pub shorted_nets : FaultSet → ℕ → ℕ → List Net → List (OfNet Net)
 shorted_nets faults k n [] = []
 shorted_nets faults k n (net ∷ nets) =
     cond (is_in_short (faults.short n) k) ((n, net) ∷ shorted_nets faults k (suc n) nets) (shorted_nets faults k (suc n) nets)
 
--- the net is ruled and has at most one live driver
+-- true if the net is ruled and has at most one live driver
 abbrev pub is_decided : Feeding → Bool
 is_decided Unruled = false
 is_decided Undriven = true
 is_decided (Driven place bit) = true
 is_decided Contended = false
 
--- the number of a net with a value of the net, if there is a value
+-- the value with the number of its net, if there is a value
 abbrev pub numbered_value : {A : Type 0} → ℕ → Option A → Option (ℕ × A)
 numbered_value n None = None
 numbered_value n (Some a) = Some (n, a)
 
--- the bits of those nets that are fed
+-- the bits of the fed nets among these nets
 abbrev pub bits_fed : RawBoard → FaultSet → List PinState → List (OfNet Net) → List (OfNet Bool)
 bits_fed board faults states nets = filter_map (λ net. numbered_value net.0 (fed faults net.0 (feeding board states net.1))) nets
 
--- the pulls of those nets that are held
+-- the pulls of the held nets among these nets
 abbrev pub bits_held : RawBoard → FaultSet → List PinState → List (OfNet Net) → List (OfNet Bool)
 bits_held board faults states nets =
     filter_map
     (λ net. numbered_value net.0 (held faults net.0 net.1.pull (feeding board states net.1))) nets
 
--- the combined fed bits; if no net is fed, the combined pulls; if no net is held either, a free bit
+-- the combined bits of the nets that are fed; if there are none, the combined pulls of the nets that are held; if there
+-- are none either, a free bit
 abbrev pub first_combined : ShortKind → List (OfNet Bool) → List (OfNet Bool) → Bool → Bool
 first_combined kind [] [] free = free
 first_combined kind [] (pull ∷ pulls) free = combined kind (pull ∷ pulls)
 first_combined kind (bit ∷ bits) pulls free = combined kind (bit ∷ bits)
 
--- the bit of short `k`, which is free if one of its nets is not ruled or has two live drivers
+-- the bit of short `k`, which is free if one of its nets is not ruled or has several live drivers
 abbrev pub short_bit : RawBoard → FaultSet → List PinState → Bool → ℕ → Bool
 short_bit board faults states free k =
     let nets : List (OfNet Net) = shorted_nets faults k 0 board.nets in
@@ -200,7 +206,8 @@ short_bit board faults states free k =
     (first_combined (faults.kind k) (bits_fed board faults states nets) (bits_held board faults states nets) free)
     free
 
--- the bit of a net: its constant if it is stuck, else the bit of its short if it is in one, else the bit of a net without such a fault
+-- the bit of a net that is stuck at `constant`, or in short `k`, or neither; a stuck net has its constant even if it is
+-- in a short
 abbrev pub net_bit_by : RawBoard → FaultSet → List PinState → (ℕ → Bool) → ℕ → Net → Option Bool → Option ℕ → Option Bool
 net_bit_by board faults states shorts n net (Some constant) short = Some constant
 net_bit_by board faults states shorts n net None (Some k) = Some (short_bit board faults states (shorts k) k)
@@ -212,12 +219,12 @@ net_bit_by board faults states shorts n net None None = unshorted_bit faults n n
 abbrev pub net_bit : RawBoard → FaultSet → List PinState → (ℕ → Bool) → ℕ → Net → Option Bool
 net_bit board faults states shorts n net = net_bit_by board faults states shorts n net (faults.stuck n) (faults.short n)
 
--- the place of a pin among these pins, if it is one of them; the first pin has place `place`
+-- the place of a pin among these pins, the first of which has place `place`; None if the pin is not among them
 abbrev pub place_in : PinAt → ℕ → List NetPin → Option ℕ
 place_in at place [] = None
 place_in at place (pin ∷ pins) = cond (is_at at pin.at) (Some place) (place_in at (suc place) pins)
 
--- a place in the nets: the number of a net, the net, and a place in it
+-- The place of a pin in the nets: the number of its net, the net, and the pin's position in the net.
 pub record Place : Type 0 where
   pub number : ℕ
   pub net : Net
@@ -228,22 +235,24 @@ abbrev pub or_next : ℕ → Net → Option ℕ → Option Place → Option Plac
 or_next n net None next = next
 or_next n net (Some place) next = Some (record { number = n; net = net; place = place })
 
--- the place of a pin in these nets, if it is in one of them; the first net has number `n`
+-- the place of a pin in these nets, the first of which has number `n`; None if the pin is in none of them
 abbrev pub place_of : PinAt → ℕ → List Net → Option Place
 place_of at n [] = None
 place_of at n (net ∷ nets) = or_next n net (place_in at 0 net.pins) (place_of at (suc n) nets)
 
--- the bit that a cell captures from a pin at this place: the constant of the pin if it is open, else the bit of the net, else a free bit
+-- the bit that a cell captures from the pin at this place: the constant of the pin if it is open, else the bit of the
+-- net, else a free bit
 abbrev pub read_at : RawBoard → FaultSet → List PinState → (ℕ → Bool) → Bool → Option Place → Bool
 read_at board faults states shorts free None = free
 read_at board faults states shorts free (Some p) =
     unwrap_or (faults.opened p.number p.place) (unwrap_or (net_bit board faults states shorts p.number p.net) free)
 
--- the pin is a receiver and not a live driver
+-- true if the pin is a receiver and not a live driver
 abbrev pub reads_pin : RawBoard → List PinState → PinAt → Bool
 reads_pin board states at = receives_where board (Some at) && not (live_where board states (Some at))
 
--- the bit that a cell captures from the pin at its entry's port bit
+-- the bit that a cell captures from the pin at this port bit of the part; a free bit if the pin is not a receiver, or
+-- is a live driver
 abbrev pub read_bit : RawBoard → FaultSet → List PinState → (ℕ → Bool) → Bool → ℕ → Option ℕ → Bool
 read_bit board faults states shorts free part None = free
 read_bit board faults states shorts free part (Some b) =

@@ -1,4 +1,4 @@
--- A board around its chain: the parts of the chain, and the bits that the pins give the boundary cells.
+-- A board around its chain: the test logic of the chain's parts, and the bits that the nets give the boundary cells.
 use Rattle.std.specs.Prelude.{List, [], map, Option, Some, None}
 use Rattle.board_defs.specs.declared.board.PartKind.{PartKind}
 use Rattle.board_defs.specs.declared.board.PartKind.TheVariants.{Described, Bypass as WithoutDescription}
@@ -10,14 +10,14 @@ use Rattle.tap_defs.specs.chain.Run.{Clock, Wiring, PassesOn, FailsOn}
 use Rattle.tap_defs.specs.board.FaultSet.{FaultSet}
 use Rattle.tap_defs.specs.board.NetBits.{captured}
 
--- The instruction in Test-Logic-Reset: IDCODE if the device declares an identification pattern, else BYPASS (IEEE 1149.1-1990, section
--- 6). IDCODE is modeled as another instruction, since the bits that it shifts are not known.
+-- The instruction in Test-Logic-Reset: IDCODE if the device declares an identification pattern, else BYPASS (IEEE
+-- 1149.1-1990, section 6). IDCODE is modeled as Other, because the bits that it shifts are not known.
 abbrev pub reset_by : {A : Type 0} → Option A → Instruction
 reset_by None = Bypass
 reset_by (Some code) = Other
 
--- The test logic of a part. A described part has the lengths and codes of its device. Of a part without a description only the length
--- of the instruction register is known.
+-- The test logic of a part. A described part has the lengths and codes of its device. For a part without a description,
+-- only the length of the instruction register is known.
 abbrev pub test_logic : PartKind → TestLogic
 test_logic (Described device) = record {
   ir_length = device.ir;
@@ -38,15 +38,15 @@ test_logic (WithoutDescription n) =
           [];
     }
 
--- the parts of the board's chain
+-- the test logic of each part of the board's chain
 abbrev pub board_logics : RawBoard → List TestLogic
 board_logics board = map (λ part. test_logic part.kind) board.chain
 
--- the board around its chain, with these faults
+-- the bits that the pins of a board with these faults give the boundary cells
 abbrev pub board_wiring : RawBoard → FaultSet → Wiring
 board_wiring board faults states choice part = captured board faults states choice.shorts choice.parts part
 
--- `chain` is some state of the board's chain
+-- `chain` is a possible state of the board's chain
 abbrev pub IsBoardChain : RawBoard → List ChainPart → Type 0
 IsBoardChain board chain = IsChainOf (board_logics board) chain
 

@@ -1,5 +1,5 @@
--- The bits that a data scan captures while a row is in the latches, under any faults. They follow from the bits of the nets, without
--- running clocks.
+-- The bits that a data scan captures while a row is in the latches, under any faults. They are computed from the bits
+-- of the nets, without running clocks.
 use Rattle.std.specs.Prelude.{◌≡◌, ℕ, suc, Bool, true, false, List, [], ◌∷◌, Option, Some, None}
 use Rattle.board_defs.specs.declared.board.PartKind.{PartKind}
 use Rattle.board_defs.specs.declared.board.PartKind.TheVariants.{Described, Bypass as WithoutDescription}
@@ -35,12 +35,14 @@ shown_by_parts board row part (p ∷ parts) = shown_by_part board row part p.kin
 abbrev pub row_states : RawBoard → TestRow → List PinState
 row_states board row = shown_by_parts board row 0 board.chain
 
--- The bits that the data register of a part loads if its boundary cells get these bits. A part in BYPASS loads 0.
+-- The bits that the data register of a part loads in Capture-DR. The register of a described part loads the bits `pins`
+-- of the boundary cells, and the bypass register of any other part loads 0.
 abbrev pub register_of : PartKind → List Bool → List Bool
 register_of (Described device) pins = pins
 register_of (WithoutDescription n) pins = false ∷ []
 
--- the bits that the data registers of the parts load, if the boundary cells get these bits
+-- the bits that the data registers of the parts load in Capture-DR; `pins k` has the bits of the boundary cells of part
+-- `k`
 abbrev pub registers : (ℕ → List Bool) → List Part → List (List Bool)
 registers pins [] = []
 registers pins (p ∷ parts) = register_of p.kind (pins 0) ∷ registers (λ k. pins (suc k)) parts
@@ -49,7 +51,8 @@ registers pins (p ∷ parts) = register_of p.kind (pins 0) ∷ registers (λ k. 
 abbrev pub row_captured : RawBoard → FaultSet → TestRow → Choice → List Bool
 row_captured board faults row choice = joined (registers (board_wiring board faults (row_states board row) choice) board.chain)
 
--- Each scan passes, whatever the free bits are, if it captures while the row that the scan before it shifted in is in the latches.
+-- Each of `scans` passes with the bits that the cells capture, whatever the free bits are. The cells capture while the
+-- row of the previous scan is in the latches, which is `row` for the first scan.
 abbrev pub CapturesPass : RawBoard → FaultSet → TestRow → List RowScan → List Scan → Type 0
 CapturesPass board faults row [] scans = Unit {0}
 CapturesPass board faults row (t ∷ ts) [] = Unit {0}
@@ -61,7 +64,7 @@ abbrev pub AgreeAt : Option Bool → Bool → Bool → Type 0
 AgreeAt None x y = Unit {0}
 AgreeAt (Some expected) x y = x ≡ y
 
--- two captures agree in each bit that the scan compares
+-- the two lists of captured bits agree wherever the scan compares a bit
 abbrev pub AgreeWhereCompared : List ScanBit → List Bool → List Bool → Type 0
 AgreeWhereCompared [] xs ys = Unit {0}
 AgreeWhereCompared (bit ∷ bits) [] ys = Unit {0}

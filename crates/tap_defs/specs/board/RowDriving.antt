@@ -1,4 +1,4 @@
--- The driving of a net while a row is in the latches. It follows from the enabled driver and the bit of the driver's cell.
+-- What drives a net while a row is in the latches. It follows from the enabled driver and the bit of the driver's cell.
 use Rattle.std.specs.Prelude.{ℕ, ◌==◌, Bool, false, cond, ◌&&◌, Option, Some, None, slice_get}
 use Rattle.board_defs.specs.declared.device.Control.{Control}
 use Rattle.board_defs.specs.declared.device.Cell.{Cell}
@@ -16,34 +16,34 @@ abbrev pub cell_bit : RawBoard → TestRow → ℕ → Option RawDevice → ℕ 
 cell_bit board row part None cell = false
 cell_bit board row part (Some device) cell = row_bit board row part device cell
 
--- the control is the driver's own cell, and this bit is its disable value
+-- true if the driver's control cell is its own cell and this bit is the disable value
 abbrev pub is_switched_off : Bool → Cell → Option Control → Bool
 is_switched_off bit cell None = false
 is_switched_off bit cell (Some control) = (control.cell == cell.num) && is_same bit control.disable
 
--- The driving of a net by the driver with this entry, if the driver is enabled. A switching driver whose cell has the disable value
--- drives nothing.
+-- The driving of a net by the enabled driver with this entry. A driver that its own cell controls drives nothing if the
+-- cell has the disable value.
 abbrev pub entry_feeds : RawBoard → TestRow → PinAt → ℕ → Option Cell → Feeding
 entry_feeds board row at place None = Undriven
 entry_feeds board row at place (Some cell) =
     let bit : Bool = cell_bit board row at.part (device_at board at.part) cell.num in
     cond (is_switched_off bit cell cell.ctl) Undriven (Driven place bit)
 
--- the driving of a net by the driver at this port bit, if the driver is enabled
+-- the driving of a net by the enabled driver at this port bit
 abbrev pub at_feeds : RawBoard → TestRow → ℕ → Option PinAt → Feeding
 at_feeds board row place None = Undriven
 at_feeds board row place (Some at) = entry_feeds board row at place (entry_at board at)
 
--- the driving of a net by the pin at this place, if the pin is the enabled driver
+-- the driving of a net by this pin, which is the enabled driver
 abbrev pub pin_feeds : RawBoard → TestRow → ℕ → Option NetPin → Feeding
 pin_feeds board row place None = Undriven
 pin_feeds board row place (Some pin) = at_feeds board row place pin.at
 
--- the driving of the net by its enabled driver, if there is one
+-- the driving of the net by the enabled driver at this place, if there is one
 abbrev pub driver_feeds : RawBoard → TestRow → Net → Option ℕ → Feeding
 driver_feeds board row net None = Undriven
 driver_feeds board row net (Some place) = pin_feeds board row place (slice_get net.pins place)
 
--- the driving of the net in a row
+-- the driving of the net while the row is in the latches
 abbrev pub row_feeding : RawBoard → TestRow → Net → Feeding
 row_feeding board row net = driver_feeds board row net (first_enabled board row.setting 0 net.pins)

@@ -9,12 +9,12 @@ pub record ChainPart : Type 0 where
   pub logic : TestLogic
   pub state : PartState
 
--- the visible state of each part
+-- the visible state of each part: the part of its state that its pins depend on
 abbrev pub pin_states : List ChainPart → List PinState
 pin_states parts = map (λ p. pin_state p.state) parts
 
--- The chain after a cycle. `pins k` has the bits that the pins of part `k` give its boundary cells, and `free k` has the free
--- bits of part `k`.
+-- The chain after a cycle. `pins k` has the bits that the pins of part `k` give its boundary cells. `free k` has the
+-- bits that the standard leaves open in part `k`.
 abbrev pub chain_after : List ChainPart → (ℕ → List Bool) → (ℕ → FreeBits) → Bool → Bool → List ChainPart
 chain_after [] pins free tms tdi = []
 chain_after (p ∷ parts) pins free tms tdi =
@@ -26,16 +26,16 @@ abbrev pub chain_tdo : List ChainPart → (ℕ → FreeBits) → Bool → Bool
 chain_tdo [] free tdi = tdi
 chain_tdo (p ∷ parts) free tdi = chain_tdo parts (λ k. free (suc k)) (part_tdo (free 0) tdi p.state)
 
--- the parts without their states
+-- the test logic of each part
 abbrev pub logics : List ChainPart → List TestLogic
 logics parts = map (λ p. p.logic) parts
 
--- each state fits its part
+-- each state has registers of the lengths that the part's test logic gives
 abbrev pub AllAreStates : List ChainPart → Type 0
 AllAreStates [] = Unit {0}
 AllAreStates (p ∷ parts) = IsStateOf p.logic p.state × AllAreStates parts
 
--- `chain` is some state of a chain of these parts, whose TAP states may differ
+-- `chain` is a possible state of a chain of these parts; the parts may be in different TAP states
 pub record IsChainOf (parts : List TestLogic) (chain : List ChainPart) : Type 0 where
   pub logics_are : logics chain ≡ parts
   pub states_are : AllAreStates chain

@@ -1,5 +1,5 @@
--- The registers of a chain through which scans go, and the bits that the capture states load into them (IEEE 1149.1-1990, sections 6
--- and 8).
+-- The registers of a chain that a scan shifts through, and the bits that the capture states load into them (IEEE
+-- 1149.1-1990, sections 6 and 8).
 use Rattle.std.specs.Prelude.{◌≡◌, ◌≢◌, ℕ, suc, Bool, false, List, [], ◌∷◌, length, map}
 use Rattle.tap_defs.specs.declared.tap.TapState.{TapState}
 use Rattle.tap_defs.specs.chain.TestLogic.{TestLogic, Instruction, Extest, Sample, Bypass, Idcode, Other}
@@ -8,7 +8,7 @@ use Rattle.tap_defs.specs.chain.Part.{PartState, FreeBits}
 use Rattle.tap_defs.specs.chain.Chain.{ChainPart, pin_states}
 use Rattle.tap_defs.specs.chain.Run.{Wiring, Choice, Choices}
 
--- the register that an instruction puts between TDI and TDO
+-- the register that an instruction puts between TDI and TDO; Other selects no register of the model
 abbrev pub selected_by : Instruction → List Bool → Bool → List Bool → List Bool
 selected_by Extest boundary bypass identification = boundary
 selected_by Sample boundary bypass identification = boundary
@@ -60,11 +60,13 @@ ir_captures free (p ∷ parts) = captured_ir p.state.ir (free 0).ir ∷ ir_captu
 abbrev pub bits_at_pins : Wiring → Choice → List ChainPart → ℕ → List Bool
 bits_at_pins wiring choice parts = wiring (pin_states parts) choice
 
--- the bits that a data scan captures; the third clock of the scan is the one whose old state is Capture-DR
+-- The bits that a data scan captures. The controllers are in Capture-DR before the third clock of the scan, whose
+-- choice is `choices 2`.
 abbrev pub data_captured : Wiring → Choices → List ChainPart → List (List Bool)
 data_captured wiring choices parts = dr_captures (bits_at_pins wiring (choices 2) parts) (choices 2).parts parts
 
--- the bits that an instruction scan captures; the fourth clock of the scan is the one whose old state is Capture-IR
+-- The bits that an instruction scan captures. The controllers are in Capture-IR before the fourth clock of the scan,
+-- whose choice is `choices 3`.
 abbrev pub codes_captured : Choices → List ChainPart → List (List Bool)
 codes_captured choices parts = ir_captures (choices 3).parts parts
 

@@ -1,4 +1,4 @@
--- The promise of the chain test, which checks the number of parts.
+-- The guarantee of the chain test, which checks the number of parts.
 use Rattle.std.specs.Prelude.{◌≡◌, ◌≢◌, ℕ, ◌≤◌, List, length, map, sum, All, Some}
 use Rattle.tap_defs.specs.chain.TestLogic.{TestLogic}
 use Rattle.tap_defs.specs.chain.Run.{Clock, Wiring, PassesOn, FailsOn}
@@ -8,7 +8,8 @@ use Rattle.tap_defs.specs.chain.Svf.{meaning}
 abbrev pub ir_lengths : List TestLogic → List ℕ
 ir_lengths parts = map (λ p. p.ir_length) parts
 
--- the lengths are instruction lengths of a chain of one or more parts, each of which has 2 or more bits (IEEE 1149.1-1990, section 6)
+-- There is at least one length, and each is 2 or more, as IEEE 1149.1-1990, section 6, requires of instruction
+-- registers.
 pub record AreIrLengths (lengths : List ℕ) : Type 0 where
   pub some : 1 ≤ length lengths
   pub wide : All (λ n. 2 ≤ n) lengths

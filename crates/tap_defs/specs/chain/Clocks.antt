@@ -1,4 +1,5 @@
--- The clocks of scans (SVF Revision E, SIR, SDR and STATE). The path of the controllers is that of IEEE 1149.1-1990, section 5.
+-- The clocks of scans and of the STATE statements (SVF Revision E). The controllers take the paths of the state diagram
+-- of IEEE 1149.1-1990, section 5.
 use Rattle.std.specs.Prelude.{Bool, true, false, List, [], ◌∷◌, ◌++◌, Some, None}
 use Rattle.tap_defs.specs.chain.Scan.{ScanBit, Scan}
 use Rattle.tap_defs.specs.chain.Run.{Clock}
@@ -11,7 +12,7 @@ plain tms = record { tms = tms; tdi = None; expect = None }
 abbrev pub shift_clock : Bool → ScanBit → Clock
 shift_clock tms bit = record { tms = tms; tdi = Some bit.tdi; expect = bit.expect }
 
--- the clocks that shift these bits in, of which only the last has TMS 1
+-- the clocks that shift these bits in; only the last clock has TMS 1
 abbrev pub shift_clocks : List ScanBit → List Clock
 shift_clocks [] = []
 shift_clocks (b ∷ []) = shift_clock true b ∷ []

@@ -1,5 +1,5 @@
--- An instruction scan, which has a code for each part. Capture-IR loads 01 into the two lowest bits of each instruction register, and these
--- bits are compared (IEEE 1149.1, instruction register).
+-- Instruction scans, which have a code for each part. Capture-IR loads 01 into the two lowest bits of each instruction
+-- register, and an instruction scan compares these bits (IEEE 1149.1, instruction register).
 use Rattle.std.specs.Prelude.{Bool, true, false, List, [], ◌∷◌, map, Some, None}
 use Rattle.tap_defs.specs.chain.Scan.{ScanBit, Scan, joined}
 

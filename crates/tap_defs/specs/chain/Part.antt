@@ -16,7 +16,7 @@ pub record PartState : Type 0 where
   pub identification : List Bool
   pub latches : List Bool
 
--- the visible state of a part, which its pins depend on: the current instruction and the update latches
+-- the visible state of a part: the current instruction and the update latches, which its pins depend on
 pub record PinState : Type 0 where
   pub current : Instruction
   pub latches : List Bool
@@ -27,16 +27,17 @@ pin_state s = record { current = s.current; latches = s.latches }
 
 -- The bits that one cycle leaves open. The standard and the description do not decide them, so a part may have any of them.
 pub record FreeBits : Type 0 where
-  -- the undecided bits that Capture-IR and Capture-DR load, and the undecided bits of the latches
+  -- the undecided bits that Capture-IR and Capture-DR load, and the undecided bits of the update latches
   pub ir : ℕ → Bool
   pub cells : ℕ → Bool
   pub latches : ℕ → Bool
   -- TDO outside the shift states
   pub tdo : Bool
-  -- whether Test-Logic-Reset selects an instruction other than BYPASS, for a part for which this is not known
+  -- For a part whose instruction in Test-Logic-Reset is not known: whether this instruction is another one than BYPASS.
   pub other : Bool
 
--- The registers after the old state has acted. Under EXTEST, Capture-DR loads the bits that the pins give the boundary cells.
+-- The part after the old state has acted. Under EXTEST, Capture-DR loads the bits that the pins give the boundary
+-- cells.
 abbrev pub old_state_acts : TapState → Instruction → TestLogic → List Bool → FreeBits → Bool → PartState → PartState
 old_state_acts CaptureIR i logic pins free tdi s = record s { ir = captured_ir s.ir free.ir }
 old_state_acts ShiftIR i logic pins free tdi s = record s { ir = shifted s.ir tdi }
@@ -59,7 +60,7 @@ tdo_in ShiftDR Bypass free tdi s = s.bypass
 tdo_in ShiftDR Idcode free tdi s = shifted_out s.identification tdi
 tdo_in _ _ free tdi s = free.tdo
 
--- the current instruction and the latches after the new state has acted
+-- the part after the new state has acted, which changes the current instruction or the latches
 abbrev pub new_state_acts : TapState → Instruction → TestLogic → FreeBits → PartState → PartState
 new_state_acts UpdateIR i logic free s = record s { current = instruction_of logic s.ir }
 new_state_acts UpdateDR Extest logic free s = record s { latches = s.boundary }

@@ -5,7 +5,7 @@ use Rattle.tap_defs.specs.chain.TestLogic.{TestLogic}
 use Rattle.tap_defs.specs.chain.Part.{PinState, FreeBits}
 use Rattle.tap_defs.specs.chain.Chain.{ChainPart, pin_states, chain_after, chain_tdo, IsChainOf}
 
--- A clock: TMS, TDI if it is given, and the expected bit at TDO if TDO is compared.
+-- A clock: TMS, TDI if the clock gives it, and the expected bit at TDO if the clock compares TDO.
 pub record Clock : Type 0 where
   pub tms : Bool
   pub tdi : Option Bool
@@ -22,12 +22,12 @@ pub record Choice : Type 0 where
 abbrev pub Choices : Type 0
 Choices = ℕ → Choice
 
--- the board around a chain, as a function that gives the bits of part `k`'s boundary cells for the visible states of all
--- parts
+-- The board around a chain. It gives the bits of the boundary cells of part `k`, from the visible states of all parts
+-- and the choice of the cycle.
 abbrev pub Wiring : Type 0
 Wiring = List PinState → Choice → ℕ → List Bool
 
--- TDI in a clock, which is a choice if the clock does not give it
+-- TDI in a clock: the given bit, or the bit of the choice if the clock gives none
 abbrev pub clock_tdi : Clock → Choice → Bool
 clock_tdi c choice = unwrap_or c.tdi choice.tdi
 
@@ -65,12 +65,12 @@ shown wiring [] choices parts = []
 shown wiring (c ∷ clocks) choices parts =
     pin_states (clock_after wiring c (choices 0) parts) ∷ shown wiring clocks (later choices) (clock_after wiring c (choices 0) parts)
 
--- the bit is as expected, if it is compared
+-- true if the bit is not compared or is the expected one
 abbrev pub bit_passes : Option Bool → Bool → Bool
 bit_passes None bit = true
 bit_passes (Some expected) bit = beq expected bit
 
--- if these bits come out at TDO, every compared bit of the clocks is as expected
+-- true if these bits at TDO are the expected ones wherever the clocks compare TDO
 abbrev pub run_passes : List Clock → List Bool → Bool
 run_passes [] bits = true
 run_passes (c ∷ clocks) [] = true

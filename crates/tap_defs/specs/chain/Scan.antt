@@ -16,14 +16,14 @@ pub record Scan : Type 0 where
 abbrev pub tdi_bits : List ScanBit → List Bool
 tdi_bits bits = map (λ b. b.tdi) bits
 
--- the row of TDO, in which a bit that is not compared is 0
+-- the row of the expected bits at TDO; a bit that is not compared is 0
 abbrev pub tdo_bits : List ScanBit → List Bool
 tdo_bits bits = map (λ b. unwrap_or b.expect false) bits
 
 abbrev pub mask_bits : List ScanBit → List Bool
 mask_bits bits = map (λ b. is_some b.expect) bits
 
--- some bit of the scan is compared
+-- true if some bit of the scan is compared
 abbrev pub compares : List ScanBit → Bool
 compares bits = list_any (λ b. is_some b.expect) bits
 

@@ -1,4 +1,5 @@
--- The three rows of a scan in code: the bits that they have, the room that they have, and that a call keeps the same three rows.
+-- The three rows of a scan in code: conditions on their bits and their room, and the condition that a call leaves them
+-- the same rows.
 use Rattle.std.specs.Prelude.{◌≡◌, ℕ, ◌≤◌, Bool, List, length}
 use Rattle.tap_defs.specs.declared.scan.ScanRows.{ScanRows}
 use Rattle.tap_defs.specs.declared.scan.StoredRows.{StoredRows}
@@ -10,15 +11,15 @@ pub record AreBitsOf (bits : List ScanBit) (shifted expected marks : List Bool) 
   pub tdo : expected ≡ tdo_bits bits
   pub mask : marks ≡ mask_bits bits
 
--- the stored rows have the bits of the scan
+-- the three stored rows have the bits of the scan
 abbrev pub AreRowsOf : List ScanBit → StoredRows → Type 0
 AreRowsOf bits stored = AreBitsOf bits stored.tdi.bits stored.tdo.bits stored.mask.bits
 
--- the borrowed rows have the bits of the scan
+-- the three borrowed rows have the bits of the scan
 abbrev pub HoldBits : List ScanBit → ScanRows → Type 0
 HoldBits bits rows = AreBitsOf bits rows.tdi.now.bits rows.tdo.now.bits rows.mask.now.bits
 
--- `Fits` is true of the room of each of the three rows
+-- the room of each of the three rows satisfies `Fits`
 pub record EachHasRoom (Fits : ℕ → Type 0) (rows : ScanRows) : Type 0 where
   pub tdi : Fits rows.tdi.now.room
   pub tdo : Fits rows.tdo.now.room
@@ -30,7 +31,7 @@ pub record HaveRoomFor (stored : StoredRows) (rows : ScanRows) : Type 0 where
   pub tdo : length stored.tdo.bits ≤ rows.tdo.now.room
   pub mask : length stored.mask.bits ≤ rows.mask.now.room
 
--- `new` borrows the same three rows as `old`, and each has the same room as before
+-- `new` borrows the same three rows as `old`, and each has the same room
 pub record AreSameRows (old new : ScanRows) : Type 0 where
   pub tdi : new.tdi.ghost_name ≡ old.tdi.ghost_name
   pub tdo : new.tdo.ghost_name ≡ old.tdo.ghost_name

@@ -1,4 +1,4 @@
--- The meaning of an SVF text (SVF Revision E): a list of clocks, if the text has a meaning.
+-- The meaning of an SVF text (SVF Revision E): the clocks that the text runs, if it has a meaning in this model.
 use Rattle.std.specs.Prelude.{ℕ, Bool, true, false, ◌&&◌, List, [], ◌∷◌, ◌++◌, Option, Some, None, option_map, option_and_then, if◌then◌else◌}
 use Rattle.tap_defs.specs.chain.Run.{Clock}
 use Rattle.tap_defs.specs.chain.Clocks.{scan_clocks, reset_clocks, head_clocks}
@@ -12,7 +12,8 @@ pub record Standing : Type 0 where
   pub ends_ir : Bool
   pub ends_dr : Bool
 
--- A scan of this kind may follow. It begins in Run-Test/Idle, and an earlier statement must have said that such scans end there.
+-- True if an SIR (`true`) or SDR (`false`) statement may come next. The controllers must be in Run-Test/Idle, and ENDIR
+-- IDLE or ENDDR IDLE must have been given for scans of this kind.
 abbrev pub may_scan : Standing → Bool → Bool
 may_scan standing true = standing.idle && standing.ends_ir
 may_scan standing false = standing.idle && standing.ends_dr
@@ -33,7 +34,7 @@ clocks_of standing (StateIdle ∷ more) = None
 clocks_of standing (ScanOf scan ∷ more) =
     if may_scan standing scan.ir then followed_by (scan_clocks scan) (clocks_of standing more) else None
 
--- what is established before the text: nothing
+-- the state before the text, in which nothing is established
 abbrev pub at_start : Standing
 at_start = record { idle = false; ends_ir = false; ends_dr = false }
 

@@ -34,7 +34,7 @@ fields_from (Some f) (Word more ∷ tokens) = fields_from (Some (record f { digi
 fields_from (Some f) (Close ∷ tokens) = option_map (λ fields. f ∷ fields) (fields_from None tokens)
 fields_from (Some f) _ = None
 
--- the `n` bits of the field, if it has this name and is a field of `n` bits
+-- the `n` bits of the field, or None if the field has another name or does not hold `n` bits
 abbrev pub field_bits_of : List ℕ → ℕ → Field → Option (List Bool)
 field_bits_of name n field = if bytes_eq field.name name then field_bits n field.digits else None
 

@@ -18,7 +18,7 @@ pub data Token : Type 0 where
   Close : Token
   End : Token
 
--- the byte is a space, a tab, a line feed or a carriage return
+-- true if the byte is a space, a tab, a line feed or a carriage return
 abbrev pub is_svf_blank : ℕ → Bool
 is_svf_blank b = (b == 32) || (b == 9) || (b == 10) || (b == 13)
 

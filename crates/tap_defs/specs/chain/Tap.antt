@@ -4,7 +4,7 @@ use Rattle.tap_defs.specs.declared.tap.TapState.{TapState}
 use Rattle.tap_defs.specs.declared.tap.TapState.TheVariants.{TestLogicReset, RunTestIdle, SelectDR, CaptureDR, ShiftDR, Exit1DR, PauseDR, Exit2DR}
 use Rattle.tap_defs.specs.declared.tap.TapState.TheVariants.{UpdateDR, SelectIR, CaptureIR, ShiftIR, Exit1IR, PauseIR, Exit2IR, UpdateIR}
 
--- the next state, in a table whose rows give the state for TMS 1 and then the state for TMS 0
+-- The next state. Each row of the table has the state after TMS 1 and then the state after TMS 0.
 abbrev pub next_state : TapState → Bool → TapState
 next_state TestLogicReset tms = cond tms TestLogicReset RunTestIdle
 next_state RunTestIdle tms = cond tms SelectDR RunTestIdle

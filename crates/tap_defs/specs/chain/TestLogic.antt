@@ -4,7 +4,8 @@ use Rattle.std.specs.Bool.{beq}
 use Rattle.std.specs.Cmp.Lexicographic.{pointwise}
 use Rattle.std.specs.List.{list_all}
 
--- The current instruction. Sample is SAMPLE/PRELOAD or PRELOAD. Idcode is IDCODE in a part whose identification code is known.
+-- The current instruction. Sample is SAMPLE/PRELOAD or PRELOAD. Idcode is IDCODE in a part whose identification code is
+-- known. Other is any other instruction.
 pub data Instruction : Type 0 where
   Extest : Instruction
   Sample : Instruction
@@ -25,11 +26,11 @@ pub record TestLogic : Type 0 where
   -- the identification code that Idcode loads
   pub idcode : List Bool
 
--- no bit is 0
+-- true if no bit is 0
 abbrev pub all_ones : List Bool → Bool
 all_ones bits = list_all (λ b. b) bits
 
--- there is a code, and it has these bits
+-- true if there is a code and it has these bits
 abbrev pub has_these_bits : Option (List Bool) → List Bool → Bool
 has_these_bits None bits = false
 has_these_bits (Some code) bits = pointwise beq code bits
@@ -39,7 +40,7 @@ abbrev pub instruction_of : TestLogic → List Bool → Instruction
 instruction_of logic code =
     cond (all_ones code) Bypass (cond (has_these_bits logic.extest code) Extest (cond (has_these_bits logic.preload code) Sample Other))
 
--- The instruction in Test-Logic-Reset. If it is not known, a free choice decides whether it is BYPASS or another instruction.
+-- The instruction in Test-Logic-Reset. If it is not known, the free bit `other` decides whether it is Other or BYPASS.
 abbrev pub reset_instruction : Option Instruction → Bool → Instruction
 reset_instruction (Some instruction) other = instruction
 reset_instruction None other = cond other Other Bypass

@@ -7,7 +7,7 @@ abbrev pub command_word : Bool → List ℕ
 command_word true = codes "SIR"
 command_word false = codes "SDR"
 
--- the character before a field: a line feed if the statement is in several lines, otherwise a space
+-- the character before a field: a line feed if the statement takes several lines, otherwise a space
 abbrev pub gap : Bool → ℕ
 gap true = 10
 gap false = 32
@@ -19,12 +19,13 @@ broken room [] = []
 broken zero (d ∷ ds) = 10 ∷ d ∷ broken 63 ds
 broken (suc room) (d ∷ ds) = d ∷ broken room ds
 
--- the digits of a field, which are in lines of 64 if the statement is in several lines
+-- the digits of a field, broken into lines of 64 if the statement takes several lines
 abbrev pub laid : Bool → List ℕ → List ℕ
 laid true digits = broken 64 digits
 laid false digits = digits
 
--- the text after the digits of TDI: if a bit is compared, it has the fields TDO and MASK
+-- The text after the digits of TDI. The last argument says whether the scan compares some bit. If it does, the text has
+-- the fields TDO and MASK.
 abbrev pub compare_text : Bool → List ScanBit → Bool → List ℕ
 compare_text long bits false = codes ");"
 compare_text long bits true =
@@ -42,7 +43,7 @@ form long scan =
     ++ (laid long (hex_text (tdi_bits scan.bits))
     ++ compare_text long scan.bits (compares scan.bits))))
 
--- the statement of a scan: in one line if it has at most 80 characters there, otherwise in several lines
+-- the statement of a scan, in one line if that line has at most 80 characters, otherwise in several lines
 abbrev pub scan_text : Scan → List ℕ
 scan_text scan = form (nat_lt 80 (length (form false scan))) scan ++ 10 ∷ []
 
@@ -63,11 +64,11 @@ head_text =
 abbrev pub tail_text : List ℕ
 tail_text = line (codes "STATE RESET;")
 
--- the head, the scans and the tail
+-- the text of the head, of the scans and of the tail
 unfoldable pub svf_text : List Scan → List ℕ
 svf_text scans = head_text ++ (scan_texts scans ++ tail_text)
 
--- each scan has at least one bit, and its number of bits fits into 64 bits
+-- each scan has at least one and fewer than `2 ^ 64` bits
 abbrev pub AllSized : List Scan → Type 0
 AllSized [] = Unit {0}
 AllSized (s ∷ scans) = ((0 < length s.bits) × (length s.bits < 2 ^ 64)) × AllSized scans

@@ -8,7 +8,7 @@ use Rattle.tap_defs.specs.chain.Scan.{ScanBit, tdi_bits, joined}
 use Rattle.tap_defs.specs.chain.Clocks.{sdr_clocks, sir_clocks}
 use Rattle.tap_defs.specs.chain.ChainRegisters.{all_held, ir_registers, data_captured, codes_captured, AllIn, AllSelectingIn}
 
--- if the bits `out` come out at TDO, every compared bit of the scan is as expected
+-- true if the bits `out` at TDO are the expected ones wherever the scan compares a bit
 abbrev pub scan_passes : List ScanBit → List Bool → Bool
 scan_passes [] out = true
 scan_passes (b ∷ bits) [] = true
@@ -24,8 +24,9 @@ pub record DataFrame : Type 0 where
 abbrev pub data_frame : ChainPart → DataFrame
 data_frame p = record { logic = p.logic; current = p.state.current; ir = p.state.ir }
 
--- A data scan that captures these registers. The TDO bits of its shift clocks are `leaving`, and it compares no other bits. Afterwards
--- the chain holds `staying`, in registers of the captured lengths. The controllers are in Run-Test/Idle again.
+-- The effect of a data scan that captures the bits `captured`. Its shift clocks output `leaving` at TDO, and its other
+-- clocks compare nothing. Afterwards the chain holds `staying`, in registers of the captured lengths. The instructions
+-- do not change, and the controllers are in Run-Test/Idle again.
 pub record ScansData (bits : List ScanBit) (captured : List (List Bool))
     (leaving staying tdo : List Bool) (before after : List ChainPart) : Type 0 where
   pub leaves : take (length bits) (drop 3 tdo) ≡ leaving
@@ -53,8 +54,9 @@ code_frame p = record {
   latches = p.state.latches;
 }
 
--- An instruction scan. The TDO bits of its shift clocks are `leaving`, and the instruction registers then hold `staying`. Each part then
--- has the instruction of the code in its instruction register.
+-- The effect of an instruction scan. Its shift clocks output `leaving` at TDO, and its other clocks compare nothing.
+-- Afterwards the instruction registers hold `staying`, and each part has the instruction of the code in its register.
+-- The controllers are in Run-Test/Idle again.
 pub record ScansCodes (bits : List ScanBit) (leaving staying tdo : List Bool) (before after : List ChainPart) : Type 0 where
   pub leaves : take (length bits) (drop 4 tdo) ≡ leaving
   pub compares : run_passes (sir_clocks bits) tdo ≡ scan_passes bits leaving
@@ -64,7 +66,8 @@ pub record ScansCodes (bits : List ScanBit) (leaving staying tdo : List Bool) (b
   pub frames : map code_frame after ≡ map code_frame before
   pub idle : AllIn RunTestIdle after
 
--- a data scan as long as the registers: the captured bits come out, and the chain then holds the bits that were shifted in
+-- A data scan that is exactly as long as the registers. All captured bits come out, and the chain then holds the bits
+-- that were shifted in.
 abbrev pub DataTransport : Type 0
 DataTransport =
     (wiring : Wiring) (bits : List ScanBit) (choices : Choices) (parts : List ChainPart) →
@@ -75,8 +78,8 @@ DataTransport =
     (tdos wiring (sdr_clocks bits) choices parts) parts
     (run wiring (sdr_clocks bits) choices parts)
 
--- A data scan of any length `n`. Of the captured bits followed by the bits that are shifted in, the first `n` come out, and the chain
--- then holds the others.
+-- A data scan of any length `n`. Let `stream` be the captured bits followed by the bits that are shifted in. Its first
+-- `n` bits come out, and the chain then holds the others.
 abbrev pub LongDataTransport : Type 0
 LongDataTransport =
     (wiring : Wiring) (bits : List ScanBit) (choices : Choices) (parts : List ChainPart) →
@@ -86,8 +89,8 @@ LongDataTransport =
     ScansData bits captured (take (length bits) stream) (drop (length bits) stream)
     (tdos wiring (sdr_clocks bits) choices parts) parts (run wiring (sdr_clocks bits) choices parts)
 
--- an instruction scan as long as the instruction registers, under any current instructions: the captured bits come out, and
--- each part then has the instruction of its code
+-- An instruction scan that is exactly as long as the instruction registers, under any current instructions. All
+-- captured bits come out, and each part then has the instruction of its code.
 abbrev pub CodeTransport : Type 0
 CodeTransport =
     (wiring : Wiring) (bits : List ScanBit) (choices : Choices) (parts : List ChainPart) →
@@ -95,8 +98,8 @@ CodeTransport =
     ScansCodes bits (joined (codes_captured choices parts)) (tdi_bits bits)
     (tdos wiring (sir_clocks bits) choices parts) parts (run wiring (sir_clocks bits) choices parts)
 
--- An instruction scan of any length `n`. Of the captured bits followed by the bits that are shifted in, the first `n` come
--- out, and the instruction registers then hold the others.
+-- An instruction scan of any length `n`. Let `stream` be the captured bits followed by the bits that are shifted in.
+-- Its first `n` bits come out, and the instruction registers then hold the others.
 abbrev pub LongCodeTransport : Type 0
 LongCodeTransport =
     (wiring : Wiring) (bits : List ScanBit) (choices : Choices) (parts : List ChainPart) →
