@@ -13,8 +13,6 @@ use Rattle.tap_defs.specs.chain.ChainScans.{marks, compared_with, chain_scans}
 use Rattle.tap_defs.proofs.chain.RowLemmas.{tdi_bits-code_bits, tdi_bits-compared}
 use Rattle.svf_writer.specs.inner.Chain.{bypass_bits, mark_bits, with_marks}
 
--- if `m` equal bits follow the bits `done`, writing `y` at the place after `done` changes the first
--- of the `m` bits to `y`
 set_first : (done : List Bool) (at m : ℕ) (x y : Bool) → length done ≡ at → 0 < m
     → set (done ++ replicate m x) at y ≡ done ++ y ∷ replicate (m - 1) x
 set_first done at zero x y is_at some = absurd (omega arith)
@@ -22,8 +20,6 @@ set_first done at (suc m) x y is_at some =
     let less : suc m - 1 ≡ m = omega arith in
     set_at done x (replicate m x) y at is_at ∙ ap (λ k. done ++ y ∷ replicate k x) (sym less)
 
--- if a row has `at` ones followed by zeros, writing a one at place `at` gives `at + 1` ones
--- followed by zeros
 pub ones_more : (len at : ℕ) → at < len
     → set (replicate at true ++ replicate (len - at) false) at true
     ≡ replicate (at + 1) true ++ replicate (len - (at + 1)) false
@@ -34,7 +30,6 @@ ones_more len at within =
     ∙ sym (append_assoc (replicate at true) (true ∷ []) (replicate (len - (at + 1)) false))
     ∙ ap (λ t. t ++ replicate (len - (at + 1)) false) (replicate_more at true)
 
--- bits that are shifted in without a comparison have 0 in the row of TDO
 sent_tdo : (n : ℕ) → tdo_bits (map sent (replicate n true)) ≡ replicate n false
 sent_tdo zero = refl
 sent_tdo (suc n) = ap (λ t. false ∷ t) (sent_tdo n)
@@ -57,7 +52,6 @@ bypass_mask (suc (suc n)) long =
     let rest : n ≡ suc (suc n) - 2 = omega arith in
     ap (λ t. true ∷ true ∷ t) (sent_mask n) ∙ ap (λ k. true ∷ true ∷ replicate k false) rest
 
--- the row of TDI of the instruction scan has only ones
 pub bypass_bits-tdi : (lengths : List ℕ) → tdi_bits (bypass_bits lengths) ≡ replicate (sum lengths) true
 bypass_bits-tdi [] = refl
 bypass_bits-tdi (n ∷ lengths) =
@@ -72,8 +66,8 @@ length-bypass_bits lengths =
     sym (length-map (bypass_bits lengths) (λ b. b.tdi)) ∙ ap length (bypass_bits-tdi lengths)
     ∙ length-replicate (sum lengths) true
 
--- if the row of TDO has the expected bits of the parts so far, followed by zeros, it has the
--- expected bits of one more part as well after a one is written at the part's lowest bit
+-- One step of the loop over the parts, from the last part to the first: a one at the lowest bit of the part's register
+-- adds the expected bits of the part to the row of TDO.
 pub tdo_step : (rest : List ℕ) (n at total : ℕ) (bits : List Bool) → 2 ≤ n → at ≡ sum rest
     → at + n ≤ total → bits ≡ tdo_bits (bypass_bits rest) ++ replicate (total - at) false
     → set bits at true ≡ tdo_bits (bypass_bits (n ∷ rest)) ++ replicate (total - (at + n)) false
@@ -120,7 +114,6 @@ set_after n i k bits is_i =
     set-append_right (replicate n false) bits n i true (length-replicate n false) (omega arith)
     ∙ ap (λ j. replicate n false ++ set bits j true) less
 
--- setting the marks at place `at` in a row of zeros gives `at` zeros, the marks, and zeros
 pub marked-zeros : (at rest : ℕ) → with_marks at (replicate (at + (8 + rest)) false) ≡ replicate at false ++ (marks ++ replicate rest false)
 marked-zeros at rest =
     let here : at ≡ at + 0 = omega arith in
@@ -134,7 +127,6 @@ marked-zeros at rest =
     ∙ ap (λ t. set t (at + 7) true) (set_after at (at + 5) 5 (set (set zeros 0 true) 2 true) refl)
     ∙ set_after at (at + 7) 7 (set (set (set zeros 0 true) 2 true) 5 true) refl
 
--- if all bits of a scan are compared, its row of TDO is the list of expected bits
 compared_tdo : (ins out : List Bool) → length ins ≡ length out → tdo_bits (compared_with ins out) ≡ out
 compared_tdo [] [] same = refl
 compared_tdo [] (o ∷ out) same = absurd (omega arith)
@@ -146,7 +138,6 @@ compared_mask [] out same = refl
 compared_mask (i ∷ ins) [] same = absurd (omega arith)
 compared_mask (i ∷ ins) (o ∷ out) same = ap (λ t. true ∷ t) (compared_mask ins out (omega arith))
 
--- the bits that the data scan shifts in are as many as the bits that it expects
 same_length : (parts : ℕ) → length (marks ++ replicate parts false) ≡ length (replicate parts false ++ marks)
 same_length parts =
     omega (
@@ -181,8 +172,6 @@ mark_bits-mask parts =
     (compared_mask (marks ++ replicate parts false) (replicate parts false ++ marks)
     (same_length parts))
 
--- the lengths from part `i - 1` on are the length of part `i - 1` followed by the lengths from part
--- `i` on
 pub drop_before : (lengths : List ℕ) (i : ℕ) → 0 < i → i ≤ length lengths → drop (i - 1) lengths ≡ get_or lengths (i - 1) 0 ∷ drop i lengths
 drop_before lengths i some within =
     let next : i - 1 + 1 ≡ i = omega arith in
@@ -196,8 +185,6 @@ sum_before lengths i some within =
 pub sum_drop : (lengths : List ℕ) (i : ℕ) → sum (drop i lengths) ≤ sum lengths
 sum_drop lengths i = omega (arith, sum_by-take-drop (λ (x : ℕ). x) lengths i)
 
--- if `at` is the sum of the lengths from part `i` on, a row with a bit for each instruction bit has
--- room for part `i - 1` at place `at`
 pub room_before : (lengths : List ℕ) (i at : ℕ) → 0 < i → i ≤ length lengths
     → at ≡ sum (drop i lengths) → at + get_or lengths (i - 1) 0 ≤ sum lengths
 room_before lengths i at some within is_at = omega (arith, sum_before lengths i some within, sum_drop lengths (i - 1))
@@ -206,7 +193,6 @@ any_one : (a b : List Bool) → list_any (λ bit. bit) (a ++ true ∷ b) ≡ tru
 any_one [] b = refl
 any_one (x ∷ a) b = ap (λ t. x || t) (any_one a b) ∙ or-true x
 
--- if there is a part and each length is at least 2, the instruction scan compares some bit
 pub bypass_bits-compared : (lengths : List ℕ) → 0 < length lengths → All (λ n. 2 ≤ n) lengths
     → list_any (λ bit. bit) (mask_bits (bypass_bits lengths)) ≡ true
 bypass_bits-compared [] some each = absurd (omega arith)
@@ -215,7 +201,6 @@ bypass_bits-compared (n ∷ lengths) some each =
     ∙ ap (λ t. mask_bits (bypass_bits lengths) ++ t) (bypass_mask n (each 0 0 (omega arith))))
     ∙ any_one (mask_bits (bypass_bits lengths)) (true ∷ replicate (n - 2) false)
 
--- if there is a part and each length is at least 2, the instruction scan has at least one bit
 pub sum_some : (lengths : List ℕ) → 0 < length lengths → All (λ n. 2 ≤ n) lengths → 0 < sum lengths
 sum_some [] some each = absurd (omega arith)
 sum_some (n ∷ lengths) some each = omega (arith, sum_by-cons (λ (x : ℕ). x) n lengths, each 0 0 (omega arith))

@@ -6,27 +6,21 @@ use Rattle.bt_bits.specs.Hex.{hex_text, digit_count}
 use Rattle.bt_bits.proofs.HexLemmas.{length-hex_text}
 use Rattle.tap_defs.specs.chain.Text.{broken}
 
--- if `count` is the number of digits of a field, the first `count` digits are the whole text of the
--- field
 pub whole_field : (bits : List Bool) (count : ℕ) → count ≡ digit_count (length bits) → take count (drop 0 (hex_text bits)) ≡ hex_text bits
 whole_field bits count all = take_all count (hex_text bits) (omega (arith, length-hex_text bits))
 
--- if there are at most `room` digits, they are not broken into lines
 pub broken-short : (room : ℕ) (digits : List ℕ) → length digits ≤ room → broken room digits ≡ digits
 broken-short room [] short = refl
 broken-short zero (d ∷ digits) short = absurd (omega arith)
 broken-short (suc room) (d ∷ digits) short = ap (λ t. d ∷ t) (broken-short room digits (omega arith))
 
--- if there are more than `room` digits, a line feed follows the first `room` of them, and the
--- others are in lines of 64
 pub broken-long : (room : ℕ) (digits : List ℕ) → room < length digits
     → broken room digits ≡ take room digits ++ 10 ∷ broken 64 (drop room digits)
 broken-long room [] long = absurd (omega arith)
 broken-long zero (d ∷ digits) long = refl
 broken-long (suc room) (d ∷ digits) long = ap (λ t. d ∷ t) (broken-long room digits (omega arith))
 
--- if more than 64 digits are left from `from` on, the next 64 are written as a line, and the others
--- follow
+-- One step of the loop that writes a field: more than 64 digits are left, and the next 64 become a line.
 pub line_more : (line digits end : List ℕ) (from : ℕ) → from + 64 < length digits
     → (line ++ (take 64 (drop from digits) ++ 10 ∷ []))
     ++ (broken 64 (drop (from + 64) digits) ++ end)
@@ -37,7 +31,7 @@ line_more line digits end from long =
     broken-long 64 (drop from digits) left ∙ ap (λ t. take 64 (drop from digits) ++ 10 ∷ broken 64 t) (drop-drop 64 from digits) in
     rw next (simp append_assoc)
 
--- if at most 64 digits are left from `from` on, they are written as the last line
+-- The last step of the loop that writes a field: at most 64 digits are left, and they become the last line.
 pub line_last : (line digits end : List ℕ) (from count : ℕ) → count ≡ length digits
     → count - from ≤ 64
     → (line ++ take (count - from) (drop from digits)) ++ end

@@ -17,7 +17,6 @@ masked_bit o true masked = refl
 masked_bit false false masked = refl
 masked_bit true false masked = let bad : false ≡ true = masked refl in absurd cc
 
--- if a scan is made from rows of equal length, its row of TDI is the given row
 pub tdi_bits-scan_bits : (tdi tdo mask : List Bool) → length tdo ≡ length tdi
     → length mask ≡ length tdi → tdi_bits (scan_bits tdi tdo mask) ≡ tdi
 tdi_bits-scan_bits [] tdo mask o m = refl
@@ -25,8 +24,6 @@ tdi_bits-scan_bits (i ∷ is) [] mask o m = absurd (omega arith)
 tdi_bits-scan_bits (i ∷ is) (o' ∷ os) [] o m = absurd (omega arith)
 tdi_bits-scan_bits (i ∷ is) (o' ∷ os) (m' ∷ ms) o m = ap (λ t. i ∷ t) (tdi_bits-scan_bits is os ms (omega arith) (omega arith))
 
--- if a scan is made from rows of equal length and MASK has a 1 wherever TDO has one, its row of TDO
--- is the given row
 pub tdo_bits-scan_bits : (tdi tdo mask : List Bool) → length tdo ≡ length tdi
     → length mask ≡ length tdi → IsMasked tdo mask → tdo_bits (scan_bits tdi tdo mask) ≡ tdo
 tdo_bits-scan_bits [] [] mask o m masked = refl
@@ -37,12 +34,10 @@ tdo_bits-scan_bits (i ∷ is) (o' ∷ os) (m' ∷ ms) o m masked =
     ap (λ b. b ∷ tdo_bits (scan_bits is os ms)) (masked_bit o' m' (masked 0))
     ∙ ap (λ t. o' ∷ t) (tdo_bits-scan_bits is os ms (omega arith) (omega arith) (λ k. masked (suc k)))
 
--- the row of MASK of a scan has a 1 if and only if the scan compares some bit
 pub list_any-mask_bits : (bits : List ScanBit) → list_any (λ bit. bit) (mask_bits bits) ≡ compares bits
 list_any-mask_bits [] = refl
 list_any-mask_bits (b ∷ bits) = ap (λ t. is_some b.expect || t) (list_any-mask_bits bits)
 
--- wherever the row of TDO of a scan has a 1, the row of MASK has a 1
 pub IsMasked-rows : (bits : List ScanBit) → IsMasked (tdo_bits bits) (mask_bits bits)
 IsMasked-rows bits = one_masked bits
 
@@ -56,8 +51,8 @@ pub length-scan_bits : (tdi tdo mask : List Bool) → length tdo ≡ length tdi
     → length mask ≡ length tdi → length (scan_bits tdi tdo mask) ≡ length tdi
 length-scan_bits tdi tdo mask o m = sym (length-map (scan_bits tdi tdo mask) (λ b. b.tdi)) ∙ ap length (tdi_bits-scan_bits tdi tdo mask o m)
 
--- the conditions on the rows of a written scan: equal lengths, MASK has a 1 wherever TDO has one,
--- and `compare` says whether MASK has a 1
+-- The conditions on the rows of a written scan. They have equal lengths, MASK has a 1 wherever TDO has a 1, and
+-- `compare` says whether MASK has a 1.
 pub record Written (tdi tdo mask : List Bool) (compare : Bool) : Type 0 where
   pub same_tdo : length tdo ≡ length tdi
   pub same_mask : length mask ≡ length tdi
@@ -144,8 +139,6 @@ fields_text-lines : (tdi tdo mask : List Bool) (compare : Bool)
 fields_text-lines tdi tdo mask true = simp append_assoc
 fields_text-lines tdi tdo mask false = simp append_assoc
 
--- if the command and the fields of a scan together have at most 80 characters, the text of the scan
--- is one line with both
 pub scan_text-short : (ir : Bool) (tdi tdo mask : List Bool) (compare : Bool)
     → Written tdi tdo mask compare
     → length (command_text ir tdi) + fields_length compare (digit_count (length tdi)) ≤ 80
@@ -160,8 +153,6 @@ scan_text-short ir tdi tdo mask compare w short =
     ∙ ap (λ t. t ++ 10 ∷ []) (form-rows false ir tdi tdo mask compare w)
     ∙ append_assoc (command_text ir tdi) (fields_text false tdi tdo mask compare) (10 ∷ [])
 
--- if the command and the fields of a scan together have more than 80 characters, the text of the
--- scan is the command followed by the fields, each in lines of its own
 pub scan_text-long : (ir : Bool) (tdi tdo mask : List Bool) (compare : Bool)
     → Written tdi tdo mask compare
     → 80 < length (command_text ir tdi) + fields_length compare (digit_count (length tdi))
@@ -178,8 +169,6 @@ scan_text-long ir tdi tdo mask compare w more =
     ∙ ap (λ t. command_text ir tdi ++ t) (fields_text-lines tdi tdo mask compare)
     ∙ sym (append_assoc (command_text ir tdi) (10 ∷ []) (fields_lines tdi tdo mask compare))
 
--- if the line is the command of the scan and the fields fit into the line, the line followed by the
--- fields is the text of the scan
 pub line_short : (ir : Bool) (tdi tdo mask : List Bool) (compare : Bool) (line : List ℕ)
     → Written tdi tdo mask compare → line ≡ command_text ir tdi
     → length line + fields_length compare (digit_count (length tdi)) ≤ 80
@@ -195,8 +184,6 @@ line_short ir tdi tdo mask compare line w begun short =
 not_short : (n : ℕ) → (n ≤ 80 → false ≡ true) → 80 < n
 not_short n refused = elim (cases_lt 80 n) [ inl more ↦ more | inr short ↦ (let bad : false ≡ true = refused short in absurd cc) ]
 
--- if the line is the command of the scan and the fields do not fit into the line, the line followed
--- by the fields in lines of their own is the text of the scan
 pub line_long : (ir : Bool) (tdi tdo mask : List Bool) (compare : Bool) (line : List ℕ)
     → Written tdi tdo mask compare → line ≡ command_text ir tdi
     → (length line + fields_length compare (digit_count (length tdi)) ≤ 80 → false ≡ true)
@@ -207,7 +194,6 @@ line_long ir tdi tdo mask compare line w begun refused =
     (subst (λ t. 80 < length t + fields_length compare (digit_count (length tdi))) begun
     (not_short (length line + fields_length compare (digit_count (length tdi))) refused)))
 
--- if three rows have the bits of a scan, the scan made from these rows has the same bits
 pub scan_of_rows : (bits : List ScanBit) (tdi tdo mask : List Bool) → tdi ≡ tdi_bits bits
     → tdo ≡ tdo_bits bits → mask ≡ mask_bits bits → scan_bits tdi tdo mask ≡ bits
 scan_of_rows bits tdi tdo mask is_tdi is_tdo is_mask =

@@ -1,4 +1,4 @@
-// The text of the chain test.
+// The SVF text of the chain test.
 ghost use Rattle.std.specs.Prelude.{◌≡◌, ◌+◌, ◌<◌, ◌≤◌, true, false, length, sum, replicate, slice_set, All};
 ghost use Rattle.board_defs.specs.Limits.{most_bits, most_parts, IsInstructionLength};
 ghost use Rattle.bt_base.specs.Puts.{Puts};
@@ -14,10 +14,11 @@ use bt_base::{PutFault, Sink};
 use bt_bits::{Line, Row};
 use tap_defs::{ScanRows, Shape};
 
-// The number of bits of A5. The data scan shifts these bits as marks.
+// The number of bits of A5 (hexadecimal). The data scan of the chain test shifts in these bits as
+// marks.
 const MARKS: u32 = 8;
 
-// Replaces the bits of the row by `len` ones.
+// Replaces the bits of the row by `len` ones. The row must have room for them.
 fn fill_ones(len: u32, row: &mut Row)
     requires { len ≤ row.old.room }
     ensures bits { row.new.bits ≡ replicate len true }
@@ -29,8 +30,8 @@ fn fill_ones(len: u32, row: &mut Row)
     }
 }
 
-// Sets the bits of the row at which A5 has a 1, if the lowest bit of A5 is at position `at`. No
-// other bit changes.
+// Sets the bits of the row at which A5 (hexadecimal) has a 1, and changes no other bit. The lowest
+// bit of A5 is at position `at`, which must be at most 255. The row must have all eight positions.
 fn set_marks(at: u32, row: &mut Row)
     requires few { at ≤ most_parts }
     requires bits { at + 8 ≤ length row.old.bits }
@@ -43,8 +44,9 @@ fn set_marks(at: u32, row: &mut Row)
     row.set(at + 7, true);
 }
 
-// Fills the rows of the data scan of `parts` parts. The scan shifts the marks in, and expects them
-// at TDO `parts` bits later.
+// Fills the rows of the data scan for `parts` parts. The scan shifts in the marks, and expects them
+// at TDO `parts` bits later. There must be at most 255 parts, and the rows must have room for
+// `parts + 8` bits.
 fn fill_marks(parts: u32, rows: &mut ScanRows)
     requires few { parts ≤ most_parts }
     requires room { EachHasRoom (λ room. parts + 8 ≤ room) rows.old }
@@ -59,7 +61,8 @@ fn fill_marks(parts: u32, rows: &mut ScanRows)
 }
 
 // Sets the compared bits of one part's instruction register. The register's lowest bit is at
-// position `at`, and the two lowest bits are expected to be 01.
+// position `at`, and the two lowest bits are expected to be 01. Both rows must have these two
+// positions, and `at` must be at most `most_bits`.
 fn set_capture(at: u32, tdo: &mut Row, mask: &mut Row)
     requires few { at ≤ most_bits }
     requires tdo { at + 2 ≤ length tdo.old.bits }
@@ -75,7 +78,8 @@ fn set_capture(at: u32, tdo: &mut Row, mask: &mut Row)
 }
 
 // Sets the compared bits of the instruction registers of all parts, from the last part to the
-// first.
+// first. Each length must be at least 2, and their sum at most `most_bits`. Both rows must have a 0
+// for each bit of these registers.
 fn set_captures(lengths: &[u32], tdo: &mut Row, mask: &mut Row)
     requires each { All (λ n. 2 ≤ n) lengths.now }
     requires total { sum lengths.now ≤ most_bits }
@@ -93,7 +97,7 @@ fn set_captures(lengths: &[u32], tdo: &mut Row, mask: &mut Row)
     }
 }
 
-// Returns the sum of the instruction lengths of all parts.
+// Returns the sum of the instruction lengths of all parts. The sum must be at most `most_bits`.
 fn bits_of(lengths: &[u32]) -> u32
     requires { sum lengths.now ≤ most_bits }
     ensures { result ≡ sum lengths.now }
@@ -101,8 +105,9 @@ fn bits_of(lengths: &[u32]) -> u32
     lengths.iter().sum()
 }
 
-// Fills the rows of the instruction scan. The scan shifts ones in, and expects 01 from the two
-// lowest bits of each part.
+// Fills the rows of the instruction scan. The scan shifts in ones, and expects 01 from the two
+// lowest bits of each part. Each length must be at least 2, their sum at most `most_bits`, and the
+// rows must have room for all bits.
 fn fill_codes(lengths: &[u32], rows: &mut ScanRows)
     requires each { All (λ n. 2 ≤ n) lengths.now }
     requires total { sum lengths.now ≤ most_bits }
@@ -117,7 +122,8 @@ fn fill_codes(lengths: &[u32], rows: &mut ScanRows)
     set_captures(lengths, rows.tdo, rows.mask);
 }
 
-// Writes the instruction scan.
+// Writes the instruction scan of the chain test. There must be at least one part. Each length must
+// be at least 2, their sum at most `most_bits`, and the rows must have room for the scan.
 fn write_codes<K: Sink>(
     lengths: &[u32],
     rows: &mut ScanRows,
@@ -140,7 +146,8 @@ fn write_codes<K: Sink>(
     write_scan(shape, rows.tdi, rows.tdo, rows.mask, line, out)
 }
 
-// Writes the data scan of `parts` parts.
+// Writes the data scan of the chain test for `parts` parts. There must be at most 255 parts, and
+// the rows must have room for `parts + 8` bits.
 fn write_marks<K: Sink>(
     parts: u32,
     rows: &mut ScanRows,
@@ -161,7 +168,8 @@ fn write_marks<K: Sink>(
     write_scan(shape, rows.tdi, rows.tdo, rows.mask, line, out)
 }
 
-// Writes the two scans of the chain test.
+// Writes the two scans of the chain test. There must be 1 to 255 parts with lengths from 2 to 255
+// bits, and the rows must have room for both scans.
 fn write_scans<K: Sink>(
     lengths: &[u32],
     rows: &mut ScanRows,
@@ -183,8 +191,8 @@ fn write_scans<K: Sink>(
 /// Writes the two scans of the chain test for parts with these instruction lengths, in the order
 /// from TDI to TDO. The first scan shifts ones, which mean BYPASS, into every instruction register,
 /// and compares the 01 that each register loads in Capture-IR (IEEE 1149.1-1990, section 6). The
-/// second scan shifts A5 through the bypass registers. With `n` parts, it expects A5 at TDO `n`
-/// bits later.
+/// second scan shifts A5 (hexadecimal) through the bypass registers. With `n` parts, it expects A5
+/// at TDO `n` bits later.
 ///
 /// There must be 1 to 255 parts with lengths from 2 to 255 bits, and the rows must have room for
 /// both scans. The call allocates nothing. The rows and the line are scratch space, and their

@@ -1,4 +1,4 @@
-//! The text of scans in the Serial Vector Format, Revision E.
+//! Writes scans as text in the Serial Vector Format (SVF), Revision E.
 #![tactic(auto)]
 
 mod chain;

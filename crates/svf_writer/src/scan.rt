@@ -1,4 +1,4 @@
-// The text of one scan.
+// The SVF text of one scan.
 ghost use Rattle.std.specs.Prelude.{◌≡◌, ◌↔◌, ◌+◌, ◌*◌, ◌<◌, ◌≤◌, [], ◌∷◌, ◌++◌, true, false, length, take, drop, IsTrue};
 ghost use Rattle.std.specs.List.{list_any};
 ghost use Rattle.board_defs.specs.Limits.{most_bits};
@@ -13,14 +13,14 @@ use bt_base::{PutFault, Sink};
 use bt_bits::{Line, Row};
 use tap_defs::Shape;
 
-// The largest number of characters in the line of a scan statement that is one line, without the
+// The largest number of characters of a scan statement that is written in one line, without the
 // line feed.
 const MAX_SHORT: usize = 80;
 
-// The largest number of digits in a line of a longer scan statement.
+// The largest number of digits in a line of a scan statement that is written in several lines.
 const LINE_DIGITS: u32 = 64;
 
-// Begins the line of a scan statement with the command and the length of the scan.
+// Replaces the line by the command and the length of the scan.
 #[tactic(auto, using(bt_bits::proofs::DecimalLemmas::decimal_is_short))]
 fn begin(ir: bool, tdi: &Row, line: &mut Line)
     ensures text { line.new ≡ command_text ir tdi.now.bits }
@@ -31,7 +31,8 @@ fn begin(ir: bool, tdi: &Row, line: &mut Line)
     line.push_number(u64::from(tdi.len()));
 }
 
-// Returns the number of hexadecimal digits in the field of a row.
+// Returns the number of hexadecimal digits in the field of a row. The row must have at most
+// `most_bits` bits.
 fn digit_count(row: &Row) -> u32
     requires { length row.now.bits ≤ most_bits }
     ensures { result ≡ digit_count (length row.now.bits) }
@@ -39,7 +40,8 @@ fn digit_count(row: &Row) -> u32
     row.len().div_ceil(4)
 }
 
-// Appends a label and the digits of a row to the line.
+// Appends a label and the digits of a row to the line. The row must have at most `most_bits` bits,
+// and the line must have room for the text.
 fn push_field(label: &[u8], row: &Row, line: &mut Line)
     requires bits { length row.now.bits ≤ most_bits }
     requires room { length line.old + length label.now + digit_count (length row.now.bits) ≤ 1024 }
@@ -51,7 +53,8 @@ fn push_field(label: &[u8], row: &Row, line: &mut Line)
     row.put_hex(0, digit_count(row), line);
 }
 
-// Appends the fields of a scan and a line feed to the line with the command.
+// Appends the fields of a scan and a line feed to the line with the command. The rows must have the
+// same length, at most `most_bits`, and the line must have room for the fields.
 fn push_fields(compare: bool, tdi: &Row, tdo: &Row, mask: &Row, line: &mut Line)
     requires bits { length tdi.now.bits ≤ most_bits }
     requires tdo { length tdo.now.bits ≡ length tdi.now.bits }
@@ -69,7 +72,8 @@ fn push_fields(compare: bool, tdi: &Row, tdo: &Row, mask: &Row, line: &mut Line)
     line.push(b");\n");
 }
 
-// Returns the number of characters of a scan's fields if they are in one line.
+// Returns the number of characters of a scan's fields in one line. Each field has `digits` digits,
+// at most `most_bits`.
 fn fields_length(compare: bool, digits: u32) -> usize
     requires { digits ≤ most_bits }
     ensures { result ≡ fields_length compare digits }
@@ -82,8 +86,9 @@ fn fields_length(compare: bool, digits: u32) -> usize
     }
 }
 
-// Appends 64 digits of the row's field, from digit `from` on, and then a line feed to the line.
-// Then puts the bytes of the line and empties the line.
+// Appends 64 digits of the row's field and a line feed to the line. Then writes the line and
+// empties it. The field must have 64 digits from digit `from` on, and the line must have at most 6
+// bytes.
 fn put_full_line<K: Sink>(
     row: &Row,
     from: u32,
@@ -103,7 +108,8 @@ fn put_full_line<K: Sink>(
     done
 }
 
-// Returns whether the fields of a scan fit into the line with its command.
+// Returns whether the fields of a scan fit into the line with its command. The line must already
+// have the command, and the row must have at most `most_bits` bits.
 fn has_room(compare: bool, tdi: &Row, line: &Line) -> bool
     requires { length tdi.now.bits ≤ most_bits }
     ensures { IsTrue result
@@ -112,7 +118,9 @@ fn has_room(compare: bool, tdi: &Row, line: &Line) -> bool
     line.len() + fields_length(compare, digit_count(tdi)) <= MAX_SHORT
 }
 
-// Writes a field in lines of its own: the label, the digits, at most 64 in a line, and `end`.
+// Writes a field in lines of its own: the label, then the digits, at most 64 in a line, and then
+// `end`. The row must have at most `most_bits` bits, the label at most 6 bytes, and `end` at most
+// 3.
 fn put_field<K: Sink>(
     label: &[u8],
     row: &Row,
@@ -139,7 +147,8 @@ fn put_field<K: Sink>(
     out.put(line.bytes())
 }
 
-// Writes the fields of a scan that compares some bit, each in lines of its own.
+// Writes the fields of a scan that compares some bit, each in lines of its own. The rows must have
+// the same length, at most `most_bits`.
 fn put_compared<K: Sink>(
     tdi: &Row,
     tdo: &Row,
@@ -158,7 +167,8 @@ fn put_compared<K: Sink>(
     put_field(b"MASK (", mask, b");\n", line, out)
 }
 
-// Writes the fields of a scan, each in lines of its own.
+// Writes the fields of a scan, each in lines of its own. The rows must have the same length, at
+// most `most_bits`.
 fn put_fields<K: Sink>(
     compare: bool,
     tdi: &Row,
@@ -180,8 +190,9 @@ fn put_fields<K: Sink>(
     }
 }
 
-// Ends and writes the line with the command, and then writes the fields, for a scan that does not
-// fit into one line.
+// Writes a scan that does not fit into one line: the line with the command, and then the fields.
+// `line` must have the command, at most 24 bytes. The rows must have the same length, at most
+// `most_bits`.
 fn put_lines<K: Sink>(
     compare: bool,
     tdi: &Row,
@@ -204,7 +215,7 @@ fn put_lines<K: Sink>(
 
 /// Writes the statement of a scan (SVF Revision E, SIR and SDR). A statement of at most 80
 /// characters is one line. A longer statement has its command in one line, and each field in lines
-/// of at most 64 digits. Each put writes one line.
+/// of at most 64 digits. Each put to the sink writes one line.
 ///
 /// The rows must have the same length, from 1 to 65,535 bits. `shape.compare` must say whether the
 /// mask has a 1. Wherever TDO has a 1, the mask must have a 1. The call allocates nothing. The line

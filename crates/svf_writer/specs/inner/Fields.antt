@@ -20,12 +20,12 @@ rest_text long tdo mask true =
 abbrev pub fields_text : Bool → List Bool → List Bool → List Bool → Bool → List ℕ
 fields_text long tdi tdo mask compare = gap long ∷ codes "TDI (" ++ (laid long (hex_text tdi) ++ rest_text long tdo mask compare)
 
--- the number of characters of the fields if they are in one line; each field has `digits` digits
+-- the number of characters of the fields in one line; each field has `digits` digits
 abbrev pub fields_length : Bool → ℕ → ℕ
 fields_length true digits = 3 * digits + 23
 fields_length false digits = digits + 8
 
--- the text of the fields if each field is in lines of its own
+-- the text of the fields, each in lines of its own
 abbrev pub fields_lines : List Bool → List Bool → List Bool → Bool → List ℕ
 fields_lines tdi tdo mask false = codes "TDI (" ++ (broken 64 (hex_text tdi) ++ codes ");\n")
 fields_lines tdi tdo mask true =

@@ -5,7 +5,7 @@ use Rattle.bt_bits.specs.Hex.{hex_text}
 use Rattle.tap_defs.specs.chain.Text.{broken}
 use Rattle.svf_writer.proofs.scan.put_field.Given as goal
 
--- putting the text that is left completes the text of the whole field
+-- Writing the text that is left completes the text of the whole field.
 abbrev pub invariant-loop-from : goal.invariant-loop-from
 invariant-loop-from g l = record {
   within : l.from ≤ l.count;
