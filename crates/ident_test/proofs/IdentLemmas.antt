@@ -29,7 +29,6 @@ use Rattle.ident_test.specs.IdentTest.{ArePatterns, IsIdentTest, EachRunTells}
 use Rattle.ident_test.proofs.LengthLemmas.{AllWhole, whole_by, bits_least, bits_most}
 use Rattle.ident_test.proofs.ResetLemmas.{AllSelected, head_selects}
 
--- the comparison of a bit at TDO passes if and only if the bit fits the symbol
 bit_fits : (symbol : Symbol) (bit : Bool) → bit_passes (wanted symbol) bit ≡ symbol_fits symbol bit
 bit_fits Zero true = refl
 bit_fits Zero false = refl
@@ -37,7 +36,6 @@ bit_fits One true = refl
 bit_fits One false = refl
 bit_fits Any bit = refl
 
--- the comparison of the bits of a code passes if and only if the code fits the pattern
 code_passes : (pattern : List Symbol) (code : List Bool) → scan_passes (map symbol_bit pattern) code ≡ code_fits pattern code
 code_passes [] code = refl
 code_passes (symbol ∷ pattern) [] = refl
@@ -45,13 +43,11 @@ code_passes (symbol ∷ pattern) (bit ∷ code) =
     ap (λ (b : Bool). b && scan_passes (map symbol_bit pattern) code) (bit_fits symbol bit)
     ∙ ap (λ (b : Bool). symbol_fits symbol bit && b) (code_passes pattern code)
 
--- the instruction that a part selects after a reset: IDCODE if it has a pattern, and BYPASS
--- otherwise
+-- the instruction of a coded part after a reset: IDCODE if it has a pattern, otherwise BYPASS
 abbrev selects : Option (List Symbol) → Instruction
 selects (Some pattern) = Idcode
 selects None = Bypass
 
--- a coded part selects IDCODE after a reset if it has a pattern, and BYPASS otherwise
 coded_at : (pattern : Option (List Symbol)) (part : TestLogic) → IsCoded pattern part → part.at_reset ≡ Some (selects pattern)
 coded_at (Some pattern) part h = h.0
 coded_at None part h = h
@@ -60,8 +56,7 @@ no_other : (pattern : Option (List Symbol)) (i : Instruction) → i ≡ selects 
 no_other (Some pattern) i e h = let z : Idcode ≡ Other = sym e ∙ h in cc z
 no_other None i e h = let z : Bypass ≡ Other = sym e ∙ h in cc z
 
--- if each part of a chain is coded and has the instruction that it selects after a reset, each part
--- selects a register that the model of the chain has
+-- After a reset, each coded part selects a register that the model of the chain has.
 selecting : (patterns : List (Option (List Symbol))) (ps : List ChainPart) → AllIn RunTestIdle ps
     → AllSelected ps → AreCoded patterns (logics ps) →
     AllSelectingIn RunTestIdle ps
@@ -73,8 +68,8 @@ selecting (pattern ∷ patterns) (p ∷ ps) idle selected coded = (
   selecting patterns ps idle.1 selected.1 coded.1,
 )
 
--- the part loads as many bits as the scan has for the part's register, and the comparison of these
--- bits passes if and only if the code fits the pattern
+-- The part loads as many bits as the scan has for its register. These bits pass if and only if the code fits the
+-- pattern.
 record Loads (pattern : Option (List Symbol)) (part : TestLogic) (loaded : List Bool) : Type 0 where
   size : length (map symbol_bit (register_pattern pattern)) ≡ length loaded
   passes : scan_passes (map symbol_bit (register_pattern pattern)) loaded ≡ part_fits pattern part
@@ -97,8 +92,7 @@ first_whole None patterns h = (tt, h)
 abbrev all_bits : List (Option (List Symbol)) → List (List ScanBit)
 all_bits patterns = map (λ part. map symbol_bit (register_pattern part)) patterns
 
--- each part loads as many bits as the scan has for the part's register, and the comparison of all
--- bits passes if and only if all codes fit
+-- Each part loads as many bits as the scan has for its register. All bits together pass if and only if all codes fit.
 record ChainLoads (patterns : List (Option (List Symbol))) (parts : List TestLogic) (loaded : List (List Bool)) : Type 0 where
   sizes : map length (all_bits patterns) ≡ map length loaded
   passes : scan_passes (ident_bits patterns) (joined loaded) ≡ all_fit patterns parts
@@ -199,8 +193,6 @@ ident_test patterns are = record {
   fails = λ wiring parts coded fit chain choices start. decides patterns are wiring parts coded chain choices start ∙ fit;
 }
 
--- if the pattern is the device's and the assigned code has 32 bits, the described part with this
--- code is coded
 one_coded : (pattern : Option (List Symbol)) (device : RawDevice) (code : List Bool) → device.idcode ≡ pattern → length code ≡ 32 →
     IsCoded pattern (coded_by pattern code (test_logic (Described device)))
 one_coded (Some pattern) device code is size = (refl, size)
@@ -212,8 +204,6 @@ devices_coded [] codes sizes = tt
 devices_coded (device ∷ devices) codes sizes =
     (one_coded device.idcode device (codes 0) refl (sizes 0), devices_coded devices (λ k. codes (suc k)) (λ k. sizes (suc k)))
 
--- the part of a device has the code that is assigned to it, and the registers and instruction codes
--- of the device
 coded_alone : (pattern : Option (List Symbol)) (device : RawDevice) (code : List Bool)
     → device.idcode ≡ pattern
     → HasCode device code (coded_by pattern code (test_logic (Described device)))
@@ -246,7 +236,6 @@ codes_assigned (first ∷ devices) codes zero device is =
     )
 codes_assigned (first ∷ devices) codes (suc k) device is = codes_assigned devices (λ n. codes (suc n)) k device is
 
--- the identification code of a part does not change what an instruction code means to the part
 pub codes_keep_instructions : (device : RawDevice) (code : List Bool) (part : TestLogic)
     → HasCode device code part → (bits : List Bool)
     → instruction_of part bits ≡ instruction_of (test_logic (Described device)) bits
@@ -261,8 +250,6 @@ codes_keep_instructions device code part has bits =
     (cond (has_these_bits given.extest bits) Extest
     (cond (has_these_bits preload bits) Sample Other))) has.preload
 
--- if the text is an identity test for these patterns, each run of it passes if and only if all
--- codes fit
 pub each_run_tells : (patterns : List (Option (List Symbol))) (text : List ℕ) → IsIdentTest patterns text → EachRunTells patterns text
 each_run_tells patterns text test clocks wiring parts chain choices means coded start = by_fit (all_fit patterns parts) refl
   where

@@ -32,7 +32,6 @@ bits_most [] h = omega arith
 bits_most (None ∷ patterns) h = omega (arith, length-ident_bits None patterns, bits_most patterns h)
 bits_most (Some pattern ∷ patterns) h = omega (arith, length-ident_bits (Some pattern) patterns, h.0, bits_most patterns h.1)
 
--- if there are at most 255 parts and each pattern has 32 symbols, the scan has at most 8,160 bits
 pub room_of : (patterns : List (Option (List Symbol)))
     → All (λ pattern. IfSome pattern (λ code. length code ≡ 32)) patterns → length patterns ≤ 255 →
     length (ident_bits patterns) ≤ 8160

@@ -1,5 +1,5 @@
--- After the head of a test's text, each part has the instruction that it selects in
--- Test-Logic-Reset, if that instruction is known.
+-- After the head of a test's text, each part has the instruction that Test-Logic-Reset selects, if that instruction is
+-- known.
 use Rattle.std.proofs.Common.{◌≡◌, ℕ, suc, Bool, true, false, List, [], ◌∷◌, map, Option, Some, refl, sym, ◌∙◌, ap, subst}
 use Rattle.tap_defs.specs.declared.tap.TapState.{TapState}
 use Rattle.tap_defs.specs.declared.tap.TapState.TheVariants.{TestLogicReset, RunTestIdle}
@@ -14,7 +14,7 @@ use Rattle.tap_defs.proofs.board.CalmLemmas.{reset_current}
 use Rattle.tap_defs.proofs.chain.HeadLemmas.{part_tap, run_resets}
 use Rattle.tap_defs.proofs.chain.MoveLemmas.{moved_to, chain_moves}
 
--- each part has the instruction that it selects in Test-Logic-Reset, if that instruction is known
+-- each part has the instruction that Test-Logic-Reset selects in it, if that instruction is known
 abbrev pub AllSelected : List ChainPart → Type 0
 AllSelected [] = Unit {0}
 AllSelected (p ∷ ps) = ((i : Instruction) → p.logic.at_reset ≡ Some i → p.state.current ≡ i) × AllSelected ps
@@ -36,8 +36,6 @@ moved_selected : (t : TapState) (ps : List ChainPart) → AllSelected ps → All
 moved_selected t [] h = tt
 moved_selected t (p ∷ ps) h = (h.0, moved_selected t ps h.1)
 
--- after five clocks with TMS at 1, each part has the instruction that it selects in
--- Test-Logic-Reset, if that instruction is known
 reset_selects : (wiring : Wiring) (choices : Choices) (ps : List ChainPart) → AllSelected (run wiring reset_clocks choices ps)
 unfolding run
 reset_selects wiring choices ps =
@@ -46,8 +44,7 @@ reset_selects wiring choices ps =
     chain_selects before (bits_at_pins wiring choice before) choice.parts true
     (clock_tdi (plain true) choice) (run_resets wiring choices ps)
 
--- after the six clocks of the head, each part still has this instruction, since the sixth clock
--- changes no instruction
+-- The sixth clock of the head changes no instruction, so each part still has the instruction that the reset selected.
 pub head_selects : (wiring : Wiring) (choices : Choices) (ps : List ChainPart) → AllSelected (run wiring head_clocks choices ps)
 unfolding run
 head_selects wiring choices ps =

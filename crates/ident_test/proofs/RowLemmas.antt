@@ -9,7 +9,6 @@ use Rattle.ident_test.specs.Patterns.{symbol_bit, register_pattern, ident_bits, 
 use Rattle.ident_test.specs.inner.Rows.{with_values}
 use Rattle.ident_test.proofs.LengthLemmas.{length-ident_bits}
 
--- the scan has as many bits as the registers of all parts together
 pub bits_are : (patterns : List (Option (List Symbol)))
     → sum_by (λ part. length (register_pattern part)) patterns ≡ length (ident_bits patterns)
 bits_are [] = refl
@@ -21,14 +20,11 @@ bits_are (part ∷ patterns) =
       length-ident_bits part patterns,
     )
 
--- writing an empty list of values changes nothing
 pub placed_nothing : (at : ℕ) (bits : List Bool) → with_values at [] bits ≡ bits
 placed_nothing at bits =
     let here : at + 0 ≡ at = omega arith in
     ap (λ n. take at bits ++ drop n bits) here ∙ take-append-drop at bits
 
--- writing the values `vs` and then `v` at the place after them has the same result as writing `vs`
--- followed by `v`
 pub placed_more : (at : ℕ) (vs bits : List Bool) (v : Bool) → at + length vs < length bits
     → set (with_values at vs bits) (at + length vs) v ≡ with_values at (vs ++ v ∷ []) bits
 placed_more at vs bits v lt =
@@ -45,8 +41,7 @@ placed_more at vs bits v lt =
     ∙ ap (λ t. front ++ t) (sym (append_assoc vs (v ∷ []) rest))
     ∙ ap (λ n. front ++ ((vs ++ v ∷ []) ++ drop n bits)) next
 
--- if the bits of the first `i` symbols are written, and the bit of symbol `i` is written after
--- them, the bits of the first `i + 1` symbols are written
+-- One step of the loop that writes a pattern: the bit of symbol `i` is written after the bits of the first `i` symbols.
 pub symbol_more : (g : ScanBit → Bool) (pattern : List Symbol) (i at position : ℕ)
     (now was : List Bool) (d : Symbol) (bit : Bool) → i < length pattern →
     at + length pattern ≤ length was → position ≡ at + i → now ≡ with_values at (map g (map symbol_bit (take i pattern))) was →
@@ -70,7 +65,6 @@ symbol_more g pattern i at position now was d bit lt room is_at so_far is_bit =
     ∙ ap (λ b. with_values at (vs ++ b ∷ []) was) is_bit
     ∙ ap (λ t. with_values at t was) (sym values)
 
--- writing values over the first of the zeros that follow `done` replaces these zeros by the values
 placed_zeros : (done vs : List Bool) (at zeros : ℕ) → length done ≡ at → length vs ≤ zeros →
     with_values at vs (done ++ replicate zeros false) ≡ (done ++ vs) ++ replicate (zeros - length vs) false
 placed_zeros done vs at zeros is_at few =
@@ -82,7 +76,6 @@ placed_zeros done vs at zeros is_at few =
     ∙ drop-replicate (length vs) zeros false)
     ∙ sym (append_assoc done vs (replicate (zeros - length vs) false))
 
--- the parts from part `i - 1` on are part `i - 1` followed by the parts from part `i` on
 pub part_before : (parts : List (Option (List Symbol))) (i : ℕ) (part : Option (List Symbol))
     → 0 < i → i ≤ length parts → part ≡ get_or parts (i - 1) part →
     drop (i - 1) parts ≡ part ∷ drop i parts
@@ -98,8 +91,8 @@ drop_bits [] (suc i) = omega arith
 drop_bits (part ∷ parts) zero = omega arith
 drop_bits (part ∷ parts) (suc i) = omega (arith, drop_bits parts i, length-ident_bits part parts)
 
--- writing the register of part `i - 1` at position `at`, after the registers of the later parts,
--- gives the row of the parts from part `i - 1` on
+-- One step of the loop over the parts: writing the register of part `i - 1` at position `at` adds this part to the row
+-- of the later parts.
 pub record WritesMore (parts : List (Option (List Symbol))) (i at : ℕ) (pattern : List Symbol) : Type 0 where
   pub next : at + length pattern ≡ length (ident_bits (drop (i - 1) parts))
   pub room : at + length pattern ≤ length (ident_bits parts)
@@ -161,12 +154,10 @@ length-placed at vs bits le =
       length-drop (at + length vs) bits,
     )
 
--- the bits of a pattern shift only zeros in
 symbols_zero : (pattern : List Symbol) → tdi_bits (map symbol_bit pattern) ≡ replicate (length pattern) false
 symbols_zero [] = refl
 symbols_zero (symbol ∷ pattern) = ap (λ t. false ∷ t) (symbols_zero pattern)
 
--- the row of TDI of the identity test's scan has only zeros
 pub tdi_zero : (patterns : List (Option (List Symbol))) → replicate (length (ident_bits patterns)) false ≡ tdi_bits (ident_bits patterns)
 tdi_zero [] = refl
 tdi_zero (part ∷ patterns) =
@@ -177,7 +168,6 @@ tdi_zero (part ∷ patterns) =
     ∙ ap (λ t. tdi_bits (ident_bits patterns) ++ t) (sym (symbols_zero here))
     ∙ sym (map-append (λ b. b.tdi) (ident_bits patterns) (map symbol_bit here))
 
--- the head, the text of the scan and the tail together are the text of the test
 pub text_is : (patterns : List (Option (List Symbol))) → head_text ++ (scan_text (ident_scan patterns) ++ tail_text) ≡ ident_text patterns
 unfolding svf_text
 text_is patterns = ap (λ t. head_text ++ (t ++ tail_text)) (sym (append-nil (scan_text (ident_scan patterns))))

@@ -35,7 +35,7 @@ unknown_text : ident_text (Some (replicate 32 Any) ∷ []) ≡ sample_text (code
 unfolding svf_text digits
 unknown_text = refl
 
--- the patterns of a part with the short pattern 0X1 and of a part without a pattern
+-- the patterns of two parts: the first has the short pattern 0X1, and the second has none
 abbrev patterns : List (Option (List Symbol))
 patterns = Some (One ∷ Any ∷ Zero ∷ []) ∷ None ∷ []
 
@@ -72,7 +72,7 @@ reads : tdos no_wiring clocks choices (two (on ∷ off ∷ off ∷ [])) ≡
 unfolding tdos
 reads = refl
 
--- whether the test passes on the chain whose first part has this code
+-- true if the test passes on the chain whose first part has this code
 abbrev outcome : List Bool → Bool
 outcome code = run_passes clocks (tdos no_wiring clocks choices (two code))
 
@@ -96,7 +96,7 @@ last_differs : outcome (off ∷ off ∷ off ∷ []) ≡ false
 unfolding tdos
 last_differs = refl
 
--- `all_fit` gives the same results for the four codes
+-- `all_fit` gives the same results for these four codes
 all_told : map (λ code. all_fit patterns (coded code ∷ bypassed ∷ []))
     ((on ∷ off ∷ off ∷ []) ∷ (on ∷ on ∷ off ∷ []) ∷ (on ∷ off ∷ on ∷ []) ∷ (off ∷ off ∷ off ∷ []) ∷ [])
     ≡ true ∷ true ∷ false ∷ false ∷ []

@@ -13,30 +13,30 @@ abbrev pub IsCoded : Option (List Symbol) → TestLogic → Type 0
 IsCoded (Some pattern) part = (part.at_reset ≡ Some Idcode) × (length part.idcode ≡ 32)
 IsCoded None part = part.at_reset ≡ Some Bypass
 
--- there are as many parts as patterns, and each part is coded with the pattern at its place
+-- There are as many parts as patterns, and each part is coded with the pattern at its place.
 abbrev pub AreCoded : List (Option (List Symbol)) → List TestLogic → Type 0
 AreCoded [] [] = Unit {0}
 AreCoded [] (part ∷ parts) = ⊥
 AreCoded (pattern ∷ patterns) [] = ⊥
 AreCoded (pattern ∷ patterns) (part ∷ parts) = IsCoded pattern part × AreCoded patterns parts
 
--- the bit fits the symbol; each bit fits X
+-- true if the bit fits the symbol; each bit fits X
 abbrev pub symbol_fits : Symbol → Bool → Bool
 symbol_fits Zero bit = not bit
 symbol_fits One bit = bit
 symbol_fits Any bit = true
 
--- Each bit of the code fits its symbol. The first bit and the first symbol are nearest TDO.
+-- True if each bit of the code fits its symbol. The first bit and the first symbol are nearest TDO.
 abbrev pub code_fits : List Symbol → List Bool → Bool
 code_fits (symbol ∷ pattern) (bit ∷ code) = symbol_fits symbol bit && code_fits pattern code
 code_fits _ _ = true
 
--- the code of the part fits the part's pattern, if the part has a pattern
+-- true if the part has no pattern, or its code fits the pattern
 abbrev pub part_fits : Option (List Symbol) → TestLogic → Bool
 part_fits (Some pattern) part = code_fits pattern part.idcode
 part_fits None part = true
 
--- the code of each part fits its pattern
+-- true if the code of each part fits the part's pattern
 abbrev pub all_fit : List (Option (List Symbol)) → List TestLogic → Bool
 all_fit (pattern ∷ patterns) (part ∷ parts) = part_fits pattern part && all_fit patterns parts
 all_fit _ _ = true

@@ -1,4 +1,4 @@
--- The promise of the identity test: it shows whether the code of each part fits the part's pattern.
+-- The guarantee of the identity test: it shows whether the code of each part fits the part's pattern.
 use Rattle.std.specs.Prelude.{◌≡◌, ℕ, ◌≤◌, true, false, List, length, Option, Some, All, IfSome}
 use Rattle.board_defs.specs.Limits.{most_parts}
 use Rattle.board_defs.specs.declared.device.Symbol.{Symbol}
@@ -8,14 +8,14 @@ use Rattle.tap_defs.specs.chain.Run.{Clock, Choices, Wiring, PassesOn, FailsOn, 
 use Rattle.tap_defs.specs.chain.Svf.{meaning}
 use Rattle.ident_test.specs.CodedParts.{AreCoded, all_fit}
 
--- there are items for 1 to 255 parts, and each item that is a pattern has 32 symbols
+-- There is an item for each of 1 to 255 parts, and each item that is a pattern has 32 symbols.
 pub record ArePatterns (patterns : List (Option (List Symbol))) : Type 0 where
   pub some : 1 ≤ length patterns
   pub few : length patterns ≤ most_parts
   pub whole : All (λ pattern. IfSome pattern (λ code. length code ≡ 32)) patterns
 
--- The text has a meaning. On each chain of coded parts with these patterns, the test passes if all
--- codes fit, and fails if some code does not fit. Both are true whatever the pins capture.
+-- The text has a meaning. On each chain of parts that are coded for these patterns, the test passes if all codes fit,
+-- and fails if some code does not fit. Both are true whatever the pins capture.
 pub record IsIdentTest (patterns : List (Option (List Symbol))) (text : List ℕ) : Type 0 where
   pub clocks : List Clock
   pub means : meaning text ≡ Some clocks
@@ -24,8 +24,7 @@ pub record IsIdentTest (patterns : List (Option (List Symbol))) (text : List ℕ
   pub fails : (wiring : Wiring) (parts : List TestLogic) → AreCoded patterns parts → all_fit patterns parts ≡ false →
       FailsOn wiring parts clocks
 
--- each run of the text on any chain of coded parts with these patterns passes if and only if all
--- codes fit
+-- Each run of the text on any chain of parts that are coded for these patterns passes if and only if all codes fit.
 abbrev pub EachRunTells : List (Option (List Symbol)) → List ℕ → Type 0
 EachRunTells patterns text =
     (clocks : List Clock) (wiring : Wiring) (parts : List TestLogic) (chain : List ChainPart)

@@ -22,8 +22,7 @@ abbrev pub register_pattern : Option (List Symbol) → List Symbol
 register_pattern (Some pattern) = pattern
 register_pattern None = Zero ∷ []
 
--- the scan bits for the registers of all parts, joined in the order of the chain; the parts are in
--- the order from TDI to TDO
+-- the scan bits for the registers of all parts, from TDI to TDO, joined into one scan
 abbrev pub ident_bits : List (Option (List Symbol)) → List ScanBit
 ident_bits patterns = joined (map (λ part. map symbol_bit (register_pattern part)) patterns)
 
@@ -31,6 +30,6 @@ ident_bits patterns = joined (map (λ part. map symbol_bit (register_pattern par
 abbrev pub ident_scan : List (Option (List Symbol)) → Scan
 ident_scan patterns = record { ir = false; bits = ident_bits patterns }
 
--- the text of the identity test of described parts with these patterns
+-- the SVF text of the identity test of described parts with these patterns
 abbrev pub ident_text : List (Option (List Symbol)) → List ℕ
 ident_text patterns = svf_text (ident_scan patterns ∷ [])

@@ -1,4 +1,4 @@
-// The text of the identity test.
+// The SVF text of the identity test.
 ghost use Rattle.std.specs.Prelude.{◌≡◌, ◌+◌, ◌<◌, ◌≤◌, false, length, map, replicate, unwrap_or, is_some, All, IfSome};
 ghost use Rattle.board_defs.specs.Limits.{most_bits, most_parts};
 ghost use Rattle.bt_base.specs.Puts.{Puts};
@@ -14,7 +14,7 @@ use bt_bits::{Line, Row};
 use svf_writer::{write_head, write_scan, write_tail};
 use tap_defs::{ScanRows, Shape};
 
-// Returns the symbols that the scan expects from a part's register: the pattern of its
+// Returns the symbols that the scan expects from a part's register: the pattern of the part's
 // identification code, or the 0 of the bypass register if the part has no pattern.
 fn register_pattern(part: &Option<Code>) -> &[Symbol]
     ensures { result.now ≡ register_pattern part.now }
@@ -26,7 +26,7 @@ fn register_pattern(part: &Option<Code>) -> &[Symbol]
 }
 
 // Returns the number of bits of the part's register. An identification register has 32 bits (IEEE
-// 1149.1-1990, section 11).
+// 1149.1-1990, section 11), and a bypass register has one. A pattern must have 32 symbols.
 fn register_bits(part: &Option<Code>) -> u32
     requires { IfSome part.now (λ code. length code ≡ 32) }
     ensures value { result ≡ length (register_pattern part.now) }
@@ -38,7 +38,8 @@ fn register_bits(part: &Option<Code>) -> u32
     }
 }
 
-// Returns the number of bits of the scan.
+// Returns the number of bits of the scan. There must be at most 255 parts, and each pattern must
+// have 32 symbols.
 fn scan_length(parts: &[Option<Code>]) -> u32
     requires few { length parts.now ≤ most_parts }
     requires whole { All (λ part. IfSome part (λ code. length code ≡ 32)) parts.now }
@@ -65,7 +66,9 @@ fn is_compared(symbol: Symbol) -> bool
     !matches!(symbol, Symbol::Any)
 }
 
-// Sets the expected bits and the mask bits of one register, whose lowest bit is at position `at`.
+// Writes the expected bits and the mask bits of one register into the rows. The register's lowest
+// bit is at position `at`. Both rows must have a position for each symbol, and no position may be
+// past `most_bits`.
 fn set_register(at: u32, pattern: &[Symbol], tdo: &mut Row, mask: &mut Row)
     requires few { at + length pattern.now ≤ most_bits }
     requires tdo { at + length pattern.now ≤ length tdo.old.bits }
@@ -85,7 +88,9 @@ fn set_register(at: u32, pattern: &[Symbol], tdo: &mut Row, mask: &mut Row)
     }
 }
 
-// Sets the expected bits and the mask bits of each register, from the last part to the first.
+// Writes the expected bits and the mask bits of all registers into the rows, from the last part to
+// the first. Both rows must have a 0 for each bit of the scan, and the scan must have at most
+// `most_bits` bits.
 fn set_registers(parts: &[Option<Code>], tdo: &mut Row, mask: &mut Row)
     requires few { length (ident_bits parts.now) ≤ most_bits }
     requires tdo { tdo.old.bits ≡ replicate (length (ident_bits parts.now)) false }
@@ -103,7 +108,8 @@ fn set_registers(parts: &[Option<Code>], tdo: &mut Row, mask: &mut Row)
     }
 }
 
-// Fills the rows of the scan with the bits of all parts.
+// Fills the rows of the scan with the bits of all parts. There must be at most 255 parts, each
+// pattern must have 32 symbols, and the rows must have room for the scan.
 #[tactic(auto, using(crate::proofs::LengthLemmas::room_of))]
 fn fill_rows(parts: &[Option<Code>], rows: &mut ScanRows)
     requires few { length parts.now ≤ most_parts }
@@ -119,7 +125,8 @@ fn fill_rows(parts: &[Option<Code>], rows: &mut ScanRows)
     set_registers(parts, rows.tdo, rows.mask);
 }
 
-// Writes the statement of the scan.
+// Writes the statement of the scan. There must be 1 to 255 parts, each pattern must have 32
+// symbols, and the rows must have room for the scan.
 fn put_scan<K: Sink>(
     parts: &[Option<Code>],
     rows: &mut ScanRows,

@@ -10,29 +10,30 @@ ghost use Rattle.ident_test.specs.CodedParts.{AreCoded, HasCode, coded_parts};
 ghost use Rattle.ident_test.specs.IdentTest.{ArePatterns, EachRunTells, IsIdentTest};
 ghost use Rattle.ident_test.specs.Patterns.{ident_text};
 
-/// The text of the identity test passes on each chain whose codes all fit their patterns, and fails
-/// on each chain with a code that does not fit. The chain may be in any state, and the pins may
-/// capture anything.
+/// The SVF text of the identity test passes on each chain whose identification codes all fit their
+/// patterns, and fails on each chain with a code that does not fit. The chain may be in any state,
+/// and the pins may capture anything.
 pub fn ident_tests()
     ensures { (patterns : List (Option (List Symbol))) → ArePatterns patterns
         → IsIdentTest patterns (ident_text patterns) }
 {}
 
-/// If each code has 32 bits, the parts of described devices with these codes are coded with the
-/// patterns of the devices.
+/// If each code has 32 bits, the parts that `coded_parts` makes from devices and codes are coded
+/// (`AreCoded`) for the patterns of the devices.
 pub fn parts_coded()
     ensures { (devices : List RawDevice) (codes : ℕ → List Bool) → ((k : ℕ) → length (codes k) ≡ 32)
         → AreCoded (map (λ device. device.idcode) devices) (coded_parts devices codes) }
 {}
 
-/// Each run of an identity test for these patterns passes if and only if all codes fit.
+/// If a text is an identity test for these patterns, each of its runs passes if and only if all
+/// codes fit their patterns.
 pub fn each_run_tells()
     ensures { (patterns : List (Option (List Symbol))) (text : List ℕ) → IsIdentTest patterns text
         → EachRunTells patterns text }
 {}
 
-/// If codes are assigned to described devices, part `k` has the register lengths and the
-/// instruction codes of device `k`. If device `k` has a pattern, part `k` has code `k`.
+/// `coded_parts` makes part `k` from device `k` and code `k`. The part has the register lengths and
+/// the instruction codes of the device. If the device has a pattern, the part has the code.
 pub fn codes_assigned()
     ensures { (devices : List RawDevice) (codes : ℕ → List Bool) (k : ℕ) (device : RawDevice)
         → slice_get devices k ≡ Some device
@@ -40,8 +41,8 @@ pub fn codes_assigned()
         × HasCode device (codes k) part }
 {}
 
-/// A part with a code interprets each instruction code like the part of its device without the
-/// code.
+/// An identification code does not change the meaning of instruction codes: a part with a code
+/// interprets each instruction code like the part of its device without the code.
 pub fn codes_keep_instructions()
     ensures { (device : RawDevice) (code : List Bool) (part : TestLogic) → HasCode device code part
         → (bits : List Bool)

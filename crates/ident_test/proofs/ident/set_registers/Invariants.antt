@@ -3,7 +3,7 @@ use Rattle.tap_defs.specs.chain.Scan.{tdo_bits, mask_bits}
 use Rattle.ident_test.specs.Patterns.{ident_bits}
 use Rattle.ident_test.proofs.ident.set_registers.Given as goal
 
--- the rows have the registers of the parts from part `i` on, followed by zeros
+-- The rows have the bits of the parts from part `i` on, followed by zeros.
 abbrev pub invariant-loop-i : goal.invariant-loop-i
 invariant-loop-i l = record {
   at : l.at ≡ length (ident_bits (drop l.i l.parts));
