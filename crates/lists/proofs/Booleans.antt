@@ -34,7 +34,6 @@ or_swap true true c = refl
 or_swap true false c = refl
 or_swap false b c = refl
 
--- the test of equality is true of a number and itself
 pub eqb_refl : (n : ℕ) → (n == n) ≡ true
 eqb_refl n = eq-eqb n n refl
 

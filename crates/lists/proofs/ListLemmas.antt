@@ -7,14 +7,11 @@ use Rattle.std.proofs.lemmas.Bool.{or_left, or_right}
 use Rattle.std.proofs.lemmas.List.Elements.{filter-append}
 use Rattle.std.proofs.lemmas.List.Folds.{list_any-append}
 
--- a list has an item at each place below its length
 pub item_there : {X : Type 0} (xs : List X) (i : ℕ) → i < length xs → (x : X) × (slice_get xs i ≡ Some x)
 item_there [] i h = absurd (omega (arith, h))
 item_there (x ∷ xs) zero h = (x, refl)
 item_there (x ∷ xs) (suc i) h = item_there xs i (omega (arith, h))
 
--- mapping a list with `f` and then with `g` gives the same list as mapping it once with `f`
--- followed by `g`
 pub map-map : {X Y Z : Type 0} (f : X → Y) (g : Y → Z) (xs : List X) → map g (map f xs) ≡ map (λ x. g (f x)) xs
 map-map f g [] = refl
 map-map {Z = Z} f g (x ∷ xs) = ap (λ (zs : List Z). g (f x) ∷ zs) (map-map f g xs)
@@ -28,7 +25,6 @@ pub list_any-map : {X Y : Type 0} (f : X → Y) (p : Y → Bool) (xs : List X) �
 list_any-map f p [] = refl
 list_any-map f p (x ∷ xs) = ap (λ b. p (f x) || b) (list_any-map f p xs)
 
--- if two tests agree on each item, either both or neither of them is true of some item of a list
 pub list_any_same : {X : Type 0} (p q : X → Bool) → ((x : X) → p x ≡ q x) → (xs : List X) → list_any p xs ≡ list_any q xs
 list_any_same p q h [] = refl
 list_any_same p q h (x ∷ xs) = ap (λ b. b || list_any p xs) (h x) ∙ ap (λ b. q x || b) (list_any_same p q h xs)
@@ -43,7 +39,6 @@ pub none_of_zeros : (n : ℕ) → list_any (λ bit. bit) (replicate n false) ≡
 none_of_zeros zero = refl
 none_of_zeros (suc n) = none_of_zeros n
 
--- the `n + 1` numbers from `a` on are the `n` numbers from `a` on followed by `a + n`
 pub range_with_len_more : (a n : ℕ) → range_with_len a (suc n) ≡ range_with_len a n ++ (a + n) ∷ []
 range_with_len_more a zero = ap (λ k. k ∷ []) (omega arith)
 range_with_len_more a (suc n) =

@@ -1,4 +1,4 @@
-//! Vectors whose values in contracts are lists, flags that are set by place, and tables that have a list in each row.
+//! Vectors whose values in contracts are lists, lists of flags, and tables with a list in each row.
 #![tactic(auto)]
 
 mod flags;

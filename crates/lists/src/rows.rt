@@ -1,11 +1,11 @@
-// Tables of lists, with a list at each place. Items are appended to these lists.
+// Tables with a list in each row.
 ghost use Rattle.std.specs.Prelude.{◌≡◌, [], Some, replicate, IfOk, OnOk};
 ghost use Rattle.lists.specs.Rows.{noted};
 
 use crate::items::Items;
 use std::alloc::{AllocError, Global};
 
-/// Returns a table of `count` empty lists.
+/// Returns a table of `count` empty lists. Fails only if memory runs out.
 pub fn blank<T: Drop>(alloc: Global, count: usize) -> Result<Vec<Items<T>>, AllocError>
     ensures { IfOk result (λ rows. rows.items ≡ replicate count []) }
 {
@@ -16,7 +16,8 @@ pub fn blank<T: Drop>(alloc: Global, count: usize) -> Result<Vec<Items<T>>, Allo
     Ok(rows)
 }
 
-/// Appends the item to the list at `place`. Does nothing past the end.
+/// Appends the item to the list at `place`, counted from 0. Does nothing past the end. If memory
+/// runs out, the content of the list is unspecified.
 pub fn note<T: Drop>(rows: &mut [Items<T>], place: usize, item: T) -> Result<(), AllocError>
     ensures { OnOk result (rows.new ≡ noted rows.old (Some place) item) }
 {
@@ -26,8 +27,7 @@ pub fn note<T: Drop>(rows: &mut [Items<T>], place: usize, item: T) -> Result<(),
     Ok(())
 }
 
-/// Appends the item to the list at `place`. Does nothing if there is no place, or if the place is
-/// past the end.
+/// Like `note`, but does nothing if there is no place.
 pub fn note_where<T: Drop>(
     rows: &mut [Items<T>],
     place: Option<u32>,
