@@ -12,15 +12,12 @@ use Rattle.bt_bits.specs.Stacks.{digit_in}
 use Rattle.bt_bits.specs.inner.Digits.{with_bit}
 use Rattle.bt_bits.proofs.DigitLemmas.{bit_value-test}
 
--- cutting off the bits of a number from bit `n` on does not change bit `i`, for each `i` below `n`
 low_bit : (x n i : ℕ) → i < n → bit_at (x % 2 ^ n) i ≡ bit_at x i
 low_bit x n i within = sym (bit_at_cat_low (x / 2 ^ n) n (x % 2 ^ n) i within) ∙ ap (λ y. bit_at y i) (div-add-mod' x (2 ^ n))
 
--- bit `i` of the field of `n` bits at place `m` is bit `m + i` of the number
 field_bit : (x m n i : ℕ) → i < n → bit_at (x / 2 ^ m % 2 ^ n) i ≡ bit_at x (m + i)
 field_bit x m n i within = low_bit (x / 2 ^ m) n i within ∙ ap (λ y. y % 2) (shr-shr x m i)
 
--- if a word is shifted up by `k` bits, its bit `i` becomes bit `i + k`
 shifted_bit : (x k i : ℕ) → i + k < 64 → bit_at (x * 2 ^ k % 2 ^ 64) (i + k) ≡ bit_at x i
 shifted_bit x k i within =
     let down : i + k - k ≡ i = omega arith in
@@ -28,15 +25,13 @@ shifted_bit x k i within =
     low_bit (x * 2 ^ k) 64 (i + k) within ∙ ap (λ y. bit_at y (i + k)) whole
     ∙ bit_at_cat_high x k 0 (i + k) (pow_pos k) (omega arith) ∙ ap (bit_at x) down
 
--- digit `j` of the bitwise and of two words is the bitwise and of their digits `j`
 digit_and : (j a b : ℕ) → digit_in j (bit_and a b) ≡ bit_and (digit_in j a) (digit_in j b)
 digit_and j a b = ap (λ x. x % 2 ^ 4) (and_shr a b (4 * j)) ∙ and_mod (a / 2 ^ (4 * j)) (b / 2 ^ (4 * j)) 4
 
--- digit `j` of the bitwise or of two words is the bitwise or of their digits `j`
 digit_or : (j a b : ℕ) → digit_in j (bit_or a b) ≡ bit_or (digit_in j a) (digit_in j b)
 digit_or j a b = ap (λ x. x % 2 ^ 4) (or_shr a b (4 * j)) ∙ or_mod (a / 2 ^ (4 * j)) (b / 2 ^ (4 * j)) 4
 
--- if a test finds that all 16 digits of a word are equal to `digit`, digit `j` is equal to it
+-- If a computed test of all 16 digits finds that they are equal to `digit`, each of them is.
 pub same_digit : (word digit : ℕ)
     → agree_below (λ j. digit_in j word == digit) (λ _. true) 16 ≡ true → (j : ℕ) → j < 16
     → digit_in j word ≡ digit
@@ -46,7 +41,6 @@ same_digit word digit tests j row = eqb-true _ _ (agree_below_at (λ j. digit_in
 abbrev mask : ℕ → ℕ
 mask k = 1229782938247303441 * 2 ^ k % 2 ^ 64
 
--- in each digit of the mask, only bit `k` is set
 mask_digit : (k j : ℕ) → k < 4 → j < 16 → digit_in j (mask k) ≡ 2 ^ k
 mask_digit zero j few = same_digit (mask 0) 1 refl j
 mask_digit (suc zero) j few = same_digit (mask 1) 2 refl j
@@ -54,7 +48,6 @@ mask_digit (suc (suc zero)) j few = same_digit (mask 2) 4 refl j
 mask_digit (suc (suc (suc zero))) j few = same_digit (mask 3) 8 refl j
 mask_digit (suc (suc (suc (suc k)))) j few = absurd (omega arith)
 
--- in each digit of the mask's complement, all bits but bit `k` are set
 rest_digit : (k j : ℕ) → k < 4 → j < 16 → digit_in j (2 ^ 64 - 1 - mask k) ≡ 15 - 2 ^ k
 rest_digit zero j few = same_digit (2 ^ 64 - 1 - mask 0) 14 refl j
 rest_digit (suc zero) j few = same_digit (2 ^ 64 - 1 - mask 1) 13 refl j
@@ -62,8 +55,8 @@ rest_digit (suc (suc zero)) j few = same_digit (2 ^ 64 - 1 - mask 2) 11 refl j
 rest_digit (suc (suc (suc zero))) j few = same_digit (2 ^ 64 - 1 - mask 3) 7 refl j
 rest_digit (suc (suc (suc (suc k)))) j few = absurd (omega arith)
 
--- if bit `k` of the digit `e` is `bit`, masking bit `k` out of the digit `d` and bringing in bit
--- `k` of `e` sets bit `k` of `d` to `bit`
+-- Clearing bit `k` of the digit `d` and then setting it if bit `k` of `e` is set replaces bit `k` of `d` by that of
+-- `e`.
 merged : (d e k : ℕ) (bit : Bool) → k < 4 → d < 16 → bit_at e k ≡ bit_value bit
     → bit_or (bit_and d (15 - 2 ^ k)) (bit_and e (2 ^ k)) ≡ with_bit d k bit
 merged d e k bit few small is =
@@ -79,8 +72,7 @@ merged d e k bit few small is =
     ap (bit_and rest) (and_comm e (2 ^ k)) ∙ sym (and_assoc e rest (2 ^ k)) ∙ ap (λ x. bit_and x e) cleared ∙ none in
     or_disjoint rest (bit_and e (2 ^ k)) apart ∙ (λ i. kept i + taken i)
 
--- if bit `k` of each digit of a word is replaced by the column's bit, digit `j` of the word gets
--- the column's bit for row `j`
+-- The operation of `with_column` on a word replaces bit `k` of digit `j` by the column's bit for row `j`.
 pub digit_with_column : (word column k j : ℕ) → k < 4 → j < 16 →
     digit_in j
     (bit_or (bit_and word (2 ^ 64 - 1 - mask k)) (bit_and (column * 2 ^ k % 2 ^ 64) (mask k)))
@@ -100,11 +92,9 @@ digit_with_column word column k j few row =
 abbrev spread : ℕ → ℕ
 spread d = get_or (0 ∷ 1 ∷ 16 ∷ 17 ∷ 256 ∷ 257 ∷ 272 ∷ 273 ∷ 4096 ∷ 4097 ∷ 4112 ∷ 4113 ∷ 4352 ∷ 4353 ∷ 4368 ∷ 4369 ∷ []) d 0
 
--- a spread digit is less than 2^16
 spread-lt : (d : ℕ) → d < 16 → spread d < 2 ^ 16
 spread-lt d small = ltb-true _ _ (agree_below_at (λ d. nat_lt (spread d) (2 ^ 16)) (λ _. true) 16 d refl small)
 
--- bit r of a digit is the lowest bit of digit r of the spread digit
 spread_bit : (d r : ℕ) → d < 16 → r < 4 → digit_bit (spread d) (4 * r) ≡ digit_bit d r
 spread_bit d zero small few = agree_below_at (λ d. digit_bit (spread d) 0) (λ d. digit_bit d 0) 16 d refl small
 spread_bit d (suc zero) small few = agree_below_at (λ d. digit_bit (spread d) 4) (λ d. digit_bit d 1) 16 d refl small
@@ -112,7 +102,6 @@ spread_bit d (suc (suc zero)) small few = agree_below_at (λ d. digit_bit (sprea
 spread_bit d (suc (suc (suc zero))) small few = agree_below_at (λ d. digit_bit (spread d) 12) (λ d. digit_bit d 3) 16 d refl small
 spread_bit d (suc (suc (suc (suc r)))) small few = absurd (omega arith)
 
--- if `a` is below 2^k, the bitwise or of `a` and of `b` shifted up by `k` bits is `b * 2^k + a`
 side_by_side : (k a b : ℕ) → a < 2 ^ k → b * 2 ^ k < 2 ^ 64 → bit_or a (b * 2 ^ k % 2 ^ 64) ≡ b * 2 ^ k + a
 side_by_side k a b low fits = ap (bit_or a) (mod-eq_of_lt fits) ∙ or_shifted_r b k a low
 
@@ -120,7 +109,6 @@ side_by_side k a b low fits = ap (bit_or a) (mod-eq_of_lt fits) ∙ or_shifted_r
 abbrev part : ℕ → ℕ
 part n = spread (bit_and n 15)
 
--- the spread lowest digit is less than 2^16
 part-lt : (n : ℕ) → part n < 2 ^ 16
 part-lt n = spread-lt (bit_and n 15) (omega (arith, and_mask n 4))
 
@@ -128,24 +116,21 @@ part-lt n = spread-lt (bit_and n 15) (omega (arith, and_mask n 4))
 abbrev joined : ℕ → ℕ → ℕ → ℕ → ℕ
 joined a b c d = bit_or (bit_or a (b * 2 ^ 16 % 2 ^ 64)) (bit_or c (d * 2 ^ 16 % 2 ^ 64) * 2 ^ 32 % 2 ^ 64)
 
--- the joined word is the sum of the four numbers, each shifted to its place
 joined_is : (a b c d : ℕ) → a < 2 ^ 16 → b < 2 ^ 16 → c < 2 ^ 16 → d < 2 ^ 16
     → joined a b c d ≡ (d * 2 ^ 16 + c) * 2 ^ 32 + (b * 2 ^ 16 + a)
 joined_is a b c d p q r s =
     (λ i. bit_or (side_by_side 16 a b p (omega arith) i) (side_by_side 16 c d r (omega arith) i * 2 ^ 32 % 2 ^ 64))
     ∙ side_by_side 32 (b * 2 ^ 16 + a) (d * 2 ^ 16 + c) (omega arith) (omega arith)
 
--- the four low digits of a number, each spread in a quarter of one word
+-- the word whose quarters are the four low digits of a number, each spread to 16 bits
 abbrev spread_word : ℕ → ℕ
 spread_word n = joined (part n) (part (n / 2 ^ 4)) (part (n / 2 ^ 8)) (part (n / 2 ^ 12))
 
--- the spread word is the sum of its four quarters, each shifted to its place
 spread_word-is : (n : ℕ) → spread_word n ≡ (part (n / 2 ^ 12) * 2 ^ 16 + part (n / 2 ^ 8)) * 2 ^ 32 + (part (n / 2 ^ 4) * 2 ^ 16 + part n)
 spread_word-is n =
     joined_is (part n) (part (n / 2 ^ 4)) (part (n / 2 ^ 8)) (part (n / 2 ^ 12)) (part-lt n)
     (part-lt (n / 2 ^ 4)) (part-lt (n / 2 ^ 8)) (part-lt (n / 2 ^ 12))
 
--- quarter `q` of the spread word is digit `q` of the number, spread
 quarter : (n q : ℕ) → q < 4 → spread_word n / 2 ^ (16 * q) % 2 ^ 16 ≡ part (n / 2 ^ (4 * q))
 quarter n zero few = omega (arith, spread_word-is n, part-lt n) ∙ ap part (sym (div-one n))
 quarter n (suc zero) few = omega (arith, spread_word-is n, part-lt n, part-lt (n / 2 ^ 4))
@@ -161,7 +146,6 @@ quarter n (suc (suc (suc zero))) few =
     )
 quarter n (suc (suc (suc (suc q)))) few = absurd (omega arith)
 
--- the lowest bit of digit `j` of the spread word is bit `j` of the number
 pub spread_word-bit : (n j : ℕ) → j < 16 → digit_bit (spread_word n) (4 * j) ≡ digit_bit n j
 spread_word-bit n j row =
     let q = j / 4 in

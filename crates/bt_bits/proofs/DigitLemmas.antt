@@ -1,4 +1,4 @@
--- Lemmas about bits that are kept in digits of four bits each.
+-- Lemmas about bits that are stored in digits of four bits each.
 use Rattle.std.proofs.Common.{◌≡◌, ℕ, ◌+◌, ◌-◌, ◌*◌, ◌/◌, ◌%◌, ◌^◌, ◌<◌, ◌≤◌, zero, suc, Bool, true, false, not, List, [], ◌∷◌, ◌++◌, length, take, drop, get_or, set, replicate, refl, sym, ap, ◌∙◌, arith, eqb, length-set}
 use Rattle.std.specs.Prelude.{All, bit_and, ◌||◌, ◌==◌}
 use Rattle.std.specs.List.{list_all, list_any}
@@ -67,7 +67,6 @@ length-digits_of (a ∷ b ∷ []) = refl
 length-digits_of (a ∷ b ∷ c ∷ []) = refl
 length-digits_of (a ∷ b ∷ c ∷ d ∷ bits) = omega (arith, length-digits_of bits)
 
--- each digit of a list of bits is below 16
 pub digits_of-below : (bits : List Bool) → All (λ x. x < 16) (digits_of bits)
 digits_of-below [] = All-nil (λ x. x < 16)
 digits_of-below (a ∷ []) =
@@ -106,7 +105,6 @@ or_rest false false true d rest = refl
 or_rest false false false true rest = refl
 or_rest false false false false rest = refl
 
--- some digit of a list of bits is not 0 if and only if some bit is 1
 pub any_digit : (bits : List Bool) → list_any (λ x. not (x == 0)) (digits_of bits) ≡ list_any (λ bit. bit) bits
 any_digit [] = refl
 any_digit (a ∷ []) = ap (λ some. some || false) (some_of a false false false) ∙ or_rest a false false false false
@@ -116,7 +114,6 @@ any_digit (a ∷ b ∷ c ∷ d ∷ bits) =
     ap (λ some. some || list_any (λ x. not (x == 0)) (digits_of bits)) (some_of a b c d)
     ∙ ap (λ rest. (a || b || c || d) || rest) (any_digit bits) ∙ or_rest a b c d (list_any (λ bit. bit) bits)
 
--- the bits of the digits of a list of bits, cut to the length of the list, are the list
 pub row_bits-digits_of : (bits : List Bool) → digit_row (length bits) (digits_of bits) ≡ bits
 unfolding digit_row
 row_bits-digits_of [] = refl
@@ -143,7 +140,6 @@ row_bits-digits_of (a ∷ b ∷ c ∷ d ∷ bits) =
     ∙ ap (λ x. a ∷ b ∷ c ∷ x ∷ take (length bits) (bits_of (digits_of bits))) (digit_bit-3 a b c d)
     ∙ ap (λ t. a ∷ b ∷ c ∷ d ∷ t) (row_bits-digits_of bits)
 
--- bit `i` of a list is bit `i % 4` of digit `i / 4` of the list's digits
 pub digits_of-get : (bits : List Bool) (i : ℕ) → i < length bits
     → digit_bit (get_or (digits_of bits) (i / 4) 0) (i % 4) ≡ get_or bits i false
 digits_of-get [] i within = absurd (omega arith)
@@ -166,7 +162,6 @@ digits_of-get (a ∷ b ∷ c ∷ d ∷ bits) (suc (suc (suc (suc i)))) within =
     ap (λ p. digit_bit (get_or (digits_of (a ∷ b ∷ c ∷ d ∷ bits)) p 0) (suc (suc (suc (suc i))) % 4)) place
     ∙ ap (λ k. digit_bit (get_or (digits_of bits) (i / 4) 0) k) bit ∙ digits_of-get bits i (omega arith)
 
--- changing bit `i` of a list changes bit `i % 4` of digit `i / 4`, and no other digit
 pub digits_of-set : (bits : List Bool) (i : ℕ) (bit : Bool) → i < length bits
     → set (digits_of bits) (i / 4) (with_bit (get_or (digits_of bits) (i / 4) 0) (i % 4) bit)
     ≡ digits_of (set bits i bit)
@@ -194,7 +189,6 @@ digits_of-set (a ∷ b ∷ c ∷ d ∷ bits) (suc (suc (suc (suc i)))) bit withi
     ∙ ap (λ k. digit_value a b c d ∷ set (digits_of bits) (i / 4) (with_bit (get_or (digits_of bits) (i / 4) 0) k bit)) at
     ∙ ap (λ t. digit_value a b c d ∷ t) (digits_of-set bits i bit (omega arith))
 
--- the digits of a list of zero bits are all 0
 pub digits_of-zeros : (len : ℕ) → digits_of (replicate len false) ≡ replicate (digit_count len) 0
 digits_of-zeros zero = refl
 digits_of-zeros (suc zero) = refl
@@ -204,8 +198,7 @@ digits_of-zeros (suc (suc (suc (suc len)))) =
     let count : digit_count (suc (suc (suc (suc len)))) ≡ suc (digit_count len) = omega arith in
     ap (λ t. 0 ∷ t) (digits_of-zeros len) ∙ sym (ap (λ n. replicate n 0) count)
 
--- if the value of bit `k` of a digit is subtracted and the value of the new bit is added, the
--- result is the digit with bit `k` replaced
+-- The computation of the function `with_bit`: it subtracts the value of bit `k` and adds the value of the new bit.
 pub with_bit-sum : (digit k from : ℕ) (bit : Bool) → k < 4 → digit < 256 → from ≡ bit_value bit
     → digit - bit_and digit (1 * 2 ^ k % 256) + from * 2 ^ k % 256 ≡ with_bit digit k bit
 with_bit-sum digit zero from bit few fits is = omega (arith, and_pow digit 0, bit_value-le bit)
@@ -230,8 +223,7 @@ digits_of-append k (a ∷ b ∷ c ∷ d ∷ low) high whole =
     let fewer : length low ≡ 4 * (k - 1) = omega arith in
     ap (λ t. digit_value a b c d ∷ t) (digits_of-append (k - 1) low high fewer)
 
--- if the first `k` digits are right for the first `4 * k` bits, and digit `k` is set to the digit
--- of the next four bits, the first `k + 1` digits are right
+-- One step of the loop in `fill_values`: digit `k` is set to the digit of the next four bits.
 pub filled_values-more : (bits : List Bool) (digits : List ℕ) (k d : ℕ) → k < length digits
     → 4 * k + 3 < length bits → take k digits ≡ digits_of (take (4 * k) bits)
     → d
@@ -246,8 +238,7 @@ filled_values-more bits digits k d place within so_far is_d =
     (ap (λ n. digits_of (take n bits)) next ∙ ap digits_of (take_four bits (4 * k) within)
     ∙ digits_of-append k (take (4 * k) bits) _ whole)
 
--- if all digits but the last are right, and the last digit is set to the digit of the bits that are
--- left, all digits are right
+-- The last step of `fill_values`: the last digit is set to the digit of the bits that are left.
 pub filled_values-top : (bits : List Bool) (digits : List ℕ) (w top : ℕ) → length digits ≡ w + 1
     → 4 * w ≤ length bits → take w digits ≡ digits_of (take (4 * w) bits)
     → top ∷ [] ≡ digits_of (drop (4 * w) bits) → set digits w top ≡ digits_of bits
@@ -266,8 +257,6 @@ bits_of-append [] high = refl
 bits_of-append (x ∷ low) high =
     ap (λ t. digit_bit x 0 ∷ digit_bit x 1 ∷ digit_bit x 2 ∷ digit_bit x 3 ∷ t) (bits_of-append low high)
 
--- if `len` is not a multiple of 4, the bits from `len` on are the bits of the last digit from bit
--- `len % 4` on
 pub drop-bits_of : (digits : List ℕ) (len : ℕ) → length digits ≡ digit_count len → 0 < len % 4
     → drop len (bits_of digits) ≡ drop (len % 4) (bits_of (get_or digits (len / 4) 0 ∷ []))
 drop-bits_of [] len sized some = absurd (omega arith)
@@ -292,7 +281,6 @@ pub drop-bits_of-whole : (digits : List ℕ) (len : ℕ) → length digits ≡ d
 drop-bits_of-whole digits len sized whole =
     drop_all len (bits_of digits) (omega (arith, length-bits_of digits))
 
--- if a number is below 2, the value of the test whether it is 1 is the number itself
 pub bit_value-test : (n : ℕ) → n < 2 → bit_value (eqb n 1) ≡ n
 bit_value-test zero small = refl
 bit_value-test (suc zero) small = refl
@@ -316,8 +304,6 @@ other_zeros : (bit : Bool) (bits : List Bool) → list_all not (bit ∷ bits) �
 other_zeros false bits zeros = zeros
 other_zeros true bits zeros = absurd (false≢true zeros)
 
--- if the bits of digits from `len` on are all 0, the digits are the digits of their first `len`
--- bits
 pub kept_digits : (digits : List ℕ) (len : ℕ) → All (λ x. x < 16) digits
     → length digits ≡ digit_count len → list_all not (drop len (bits_of digits)) ≡ true
     → digits ≡ digits_of (digit_row len digits)
@@ -359,7 +345,6 @@ kept_digits (x ∷ xs) (suc (suc (suc (suc len)))) below sized zeros =
     ap (λ t. x ∷ t) (kept_digits xs len (All-tail (λ x. x < 16) x xs below) (omega arith) zeros)
     ∙ sym (ap (λ v. v ∷ digits_of (take len (bits_of xs))) (digit_value-bits x (All-head (λ x. x < 16) x xs below)))
 
--- if the digits are the digits of a list of `len` bits, their first `len` bits are this list
 pub row_bits-is : (bits : List Bool) (len : ℕ) (digits : List ℕ) → length bits ≡ len → digits ≡ digits_of bits → digit_row len digits ≡ bits
 row_bits-is bits len digits sized is =
     sym (ap (λ n. digit_row n digits) sized) ∙ ap (digit_row (length bits)) is ∙ row_bits-digits_of bits
@@ -371,8 +356,6 @@ digits_of-row bits len digits sized is = record {
   values = is ∙ ap digits_of (sym (row_bits-is bits len digits sized is));
 }
 
--- if the digits are the digits of `seen`, and `seen` is equal to `bits`, they are the digits of
--- `bits`
 pub seen_digits : (seen bits : List Bool) (len : ℕ) (digits : List ℕ) → AreDigitsOf seen len digits
     → seen ≡ bits → AreDigitsOf bits len digits
 seen_digits seen bits len digits are is = record {

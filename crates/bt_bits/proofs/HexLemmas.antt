@@ -11,7 +11,6 @@ length-hex_text (a ∷ b ∷ c ∷ []) = refl
 length-hex_text (a ∷ b ∷ c ∷ d ∷ bits) =
     length-append (hex_text bits) (hex_digit a b c d ∷ []) ∙ omega (arith, length-hex_text bits)
 
--- the first `i + 4` bits are the first `i` bits followed by the next four
 pub take_four : (bits : List Bool) (i : ℕ) → i + 3 < length bits
     → take (i + 4) bits
     ≡ take i bits
@@ -23,13 +22,11 @@ joined_bits-none : (bits : Option (List Bool)) → joined_bits bits None ≡ Non
 joined_bits-none None = refl
 joined_bits-none (Some bits) = refl
 
--- a text with a byte that is not a digit has no bits
 pub text_bits-none : (text : List ℕ) (i : ℕ) → i < length text → digit_bits (get_or text i 0) ≡ None → text_bits text ≡ None
 text_bits-none [] i within bad = absurd (omega arith)
 text_bits-none (c ∷ cs) zero within bad = ap (joined_bits (text_bits cs)) bad ∙ joined_bits-none (text_bits cs)
 text_bits-none (c ∷ cs) (suc i) within bad = ap (λ o. joined_bits o (digit_bits c)) (text_bits-none cs i (omega arith) bad)
 
--- if a field has as many digits as `len` bits need, it has the bits of its text, cut to `len` bits
 pub field_bits-sized : (len : ℕ) (text : List ℕ) → length text ≡ digit_count len
     → field_bits len text ≡ option_and_then (cut_to len) (text_bits text)
 field_bits-sized len text sized =

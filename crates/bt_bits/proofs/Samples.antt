@@ -1,4 +1,4 @@
--- Samples of rows that are kept side by side, with values computed by hand.
+-- Samples of rows that are stored side by side, with values computed by hand.
 use Rattle.std.proofs.Common.{◌≡◌, true, false, [], ◌∷◌, get_or, refl, ap, arith}
 use Rattle.bt_bits.specs.Digits.{digit_row}
 use Rattle.bt_bits.specs.Stacks.{AreStacked, Stack, column_bit, digit_in, stacked}
@@ -30,8 +30,8 @@ column : column_bit (record { word = 4354 }) 0 ∷ column_bit (record { word = 4
     ≡ false ∷ false ∷ true ∷ true ∷ []
 column = refl
 
--- if rows have six bits, bits 2 and 3 of a digit in the second word are past the end, so a row may
--- not have the digit 4 there
+-- With rows of six bits, bits 2 and 3 of a digit in the second word are past the end. So no row may have the digit 4
+-- there.
 none_past_the_end : AreStacked 6 (2642 ∷ 52 ∷ []) → ⊥
 unfolding digit_row
 none_past_the_end are = let four : 4 ≡ 0 = ap (λ digits. get_or digits 1 0) (are 0 (omega arith)).values in absurd (omega (arith, four))

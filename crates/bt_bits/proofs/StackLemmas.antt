@@ -1,4 +1,4 @@
--- Lemmas about rows that are kept side by side.
+-- Lemmas about rows that are stored side by side.
 use Rattle.std.proofs.Common.{◌≡◌, ℕ, ◌*◌, ◌/◌, ◌%◌, ◌<◌, zero, suc, Bool, true, List, [], ◌∷◌, length, get_or, set, refl, sym, ap, ◌∙◌, arith, length-set}
 use Rattle.std.specs.Prelude.{All, ◌==◌, map}
 use Rattle.std.proofs.lemmas.Bool.{agree_below, agree_below_at}
@@ -11,7 +11,6 @@ use Rattle.bt_bits.specs.inner.Digits.{with_bit}
 use Rattle.bt_bits.proofs.ColumnLemmas.{same_digit}
 use Rattle.bt_bits.proofs.DigitLemmas.{digits_of-row, digits_of-set, length-digits_of, row_bits-is}
 
--- if words hold rows of `len` bits, there are as many words as a row has digits
 pub length-words : (len : ℕ) (words : List ℕ) → AreStacked len words → length words ≡ digit_count len
 length-words len words are =
     let first = are 0 (omega arith) in
@@ -23,14 +22,11 @@ length-words len words are =
       first.count,
     )
 
--- if, for each `j` below 16, the digits `j` of the words are the digits of a list of `len` bits,
--- the words hold rows of `len` bits
 pub stacked_by : (len : ℕ) (words : List ℕ) (rows : ℕ → List Bool)
     → ((j : ℕ) → j < 16 → length (rows j) ≡ len)
     → ((j : ℕ) → j < 16 → map (digit_in j) words ≡ digits_of (rows j)) → AreStacked len words
 stacked_by len words rows sized are j less = digits_of-row (rows j) len (map (digit_in j) words) (sized j less) (are j less)
 
--- changing the word at a place changes the digit of each row at this place, and no other digit
 map_set : (f : ℕ → ℕ) (words : List ℕ) (place word : ℕ) → map f (set words place word) ≡ set (map f words) place (f word)
 map_set f [] place word = refl
 map_set f (w ∷ words) zero word = refl
@@ -41,8 +37,7 @@ map_get f [] place within = absurd (omega arith)
 map_get f (w ∷ words) zero within = refl
 map_get f (w ∷ words) (suc place) within = map_get f words place (omega arith)
 
--- if bit `i % 4` of digit `j` of word `i / 4` is set to `bit`, the digits of row `j` are the digits
--- of the row with bit `i` set to `bit`
+-- Setting bit `i % 4` of digit `j` in word `i / 4` sets bit `i` of row `j`.
 pub set_digits : (len i : ℕ) (words : List ℕ) (word j : ℕ) (bit : Bool) → AreStacked len words → i < len → j < 16 →
     digit_in j word ≡ with_bit (digit_in j (get_or words (i / 4) 0)) (i % 4) bit
     → map (digit_in j) (set words (i / 4) word)
@@ -64,8 +59,8 @@ set_row len i words word j bit are within less is =
     let row = digit_row len (map (digit_in j) words) in
     row_bits-is (set row i bit) len _ (length-set row i bit ∙ (are j less).count) (set_digits len i words word j bit are within less is)
 
--- if a digit is multiplied by the word in which each digit is 1, each digit of the product is this
--- digit; the proof tests all cases
+-- The product of a digit and the word in which each digit is 1 has this digit at all 16 places. The proof computes all
+-- cases.
 digit_in-each : (digit j : ℕ) → digit < 16 → j < 16 → digit_in j (digit * 1229782938247303441) ≡ digit
 digit_in-each digit j small less =
     same_digit (digit * 1229782938247303441) digit
@@ -73,8 +68,6 @@ digit_in-each digit j small less =
     (λ d. agree_below (λ i. digit_in i (d * 1229782938247303441) == d) (λ _. true) 16)
     (λ _. true) 16 digit refl small) j less
 
--- if each digit of a row is multiplied by the word in which each digit is 1, the digits `j` of the
--- resulting words are the digits of the row, for each row `j`
 pub digits_each : (digits : List ℕ) (j : ℕ) → All (λ x. x < 16) digits → j < 16
     → map (digit_in j) (map (λ x. x * 1229782938247303441) digits) ≡ digits
 digits_each [] j small less = refl

@@ -31,7 +31,6 @@ digit_char-value true false true true = refl
 digit_char-value false true true true = refl
 digit_char-value true true true true = refl
 
--- the hexadecimal text of bits is the text of their digits
 pub hex_text-digits : (bits : List Bool) → hex_text bits ≡ digits_text (digits_of bits)
 hex_text-digits [] = refl
 hex_text-digits (a ∷ []) = ap (λ x. x ∷ []) (sym (digit_char-value a false false false))
@@ -56,9 +55,7 @@ digits_text-take_more : (digits : List ℕ) (k : ℕ) → k < length digits
 digits_text-take_more digits k within =
     ap digits_text (take_more digits k 0 within) ∙ digits_text-append (take k digits) (get_or digits k 0 ∷ [])
 
--- if the last `k` characters of the text are the text of the first `k` digits, and the character
--- before them is set to the character of digit `k`, the last `k + 1` characters are the text of the
--- first `k + 1` digits
+-- One step of the loop in `fill_text`: the character before the last `k` is set to the character of digit `k`.
 pub filled_more : (digits text : List ℕ) (n k d : ℕ) → n ≡ length text → k < n → k < length digits
     → drop (n - k) text ≡ digits_text (take k digits) → d ≡ digit_char (get_or digits k 0)
     → drop (n - (k + 1)) (set text (n - 1 - k) d) ≡ digits_text (take (k + 1) digits)
@@ -70,8 +67,6 @@ filled_more digits text n k d is_n below within so_far is_d =
     ∙ ap (λ x. x ∷ digits_text (take k digits)) is_d
     ∙ sym (digits_text-take_more digits k within)
 
--- `count` characters of the text of digits, from character `from` on, are the text of the `count`
--- digits that end `from` digits before the last
 pub text_piece : (digits : List ℕ) (from count : ℕ) → from + count ≤ length digits
     → digits_text (take count (drop (length digits - from - count) digits))
     ≡ take count (drop from (digits_text digits))
@@ -104,8 +99,6 @@ text_piece digits from count within =
 max_below : (a b : ℕ) → nat_lt (max a b) 16 ≡ (nat_lt b 16 && nat_lt a 16)
 max_below a b = grind arith
 
--- if the bytes behind place `at` have the bits of `digits`, and the byte at `at` has the bits of
--- the digit `x`, the bytes from `at` on have the bits of `digits` followed by the bits of `x`
 read_more : (text : List ℕ) (at : ℕ) (digits : List ℕ) (x : ℕ) → at < length text
     → text_bits (drop (suc at) text) ≡ Some (bits_of digits)
     → digit_bits (get_or text at 0) ≡ Some (bits_of (x ∷ []))
@@ -123,8 +116,7 @@ both false second b other e f g = f b
 is_below : (x : ℕ) → nat_lt x 16 ≡ true → x < 16
 is_below x small = grind arith
 
--- if the last `k` bytes of the text were read, and the value `x` of the byte before them is stored
--- as digit `k`, the last `k + 1` bytes are read
+-- One step of the loop in `fill_digits`: the value of the byte before the last `k` is stored as digit `k`.
 pub read_digit : (text digits : List ℕ) (n k most x next : ℕ) → n ≡ length text → length digits ≡ n
     → k < n → next ≡ max x most → IsValueOf (get_or text (n - 1 - k) 0) x
     → AreDigitsFrom text (n - k) (take k digits) (nat_lt most 16)
@@ -145,15 +137,12 @@ read_digit text digits n k most x next is_n sized within is_next value so_far =
     (λ none. none)
     (λ none. text_bits-none text (n - 1 - k) (omega arith) none))
 
--- if the last `k` bytes were read, and the text has at most `k` bytes, the whole text is read
 pub read_whole : (text digits : List ℕ) (n k : ℕ) (all : Bool) → length digits ≡ n → n ≤ k
     → AreDigitsFrom text (n - k) (take k digits) all → AreDigitsFrom text 0 digits all
 read_whole text digits n k all sized whole read =
     let at : n - k ≡ 0 = omega arith in
     subst (λ i. AreDigitsFrom text i digits all) at (subst (λ ds. AreDigitsFrom text (n - k) ds all) (take_all k digits (omega arith)) read)
 
--- if a field has as many digits as `len` bits need, and all of them were read, the field has a row
--- of `len` bits if and only if all bits from `len` on are 0
 pub field_bits-read : (len : ℕ) (text digits : List ℕ) (cut : Bool) → length text ≡ digit_count len
     → text_bits text ≡ Some (bits_of digits) → cut ≡ list_all not (drop len (bits_of digits))
     → MatchBool cut (field_bits len text ≡ Some (digit_row len digits)) (field_bits len text ≡ None)
@@ -174,8 +163,6 @@ unfolding digit_row
 length-row_bits len digits sized =
     length-take-le len (bits_of digits) (omega (arith, length-bits_of digits))
 
--- if no bit of the digits from bit `len` on is 1, the digits are the digits of their first `len`
--- bits
 pub field_kept : (len : ℕ) (digits : List ℕ) (cut : Bool) → length digits ≡ digit_count len
     → All (λ x. x < 16) digits → cut ≡ list_all not (drop len (bits_of digits))
     → OnTrue cut (AreDigitsOf (digit_row len digits) len digits)

@@ -1,4 +1,4 @@
--- Digits of four bits each. A row keeps its bits in such digits.
+-- Digits of four bits each. A row stores its bits in such digits.
 use Rattle.std.specs.Prelude.{ℕ, ◌+◌, ◌*◌, ◌/◌, ◌%◌, ◌^◌, ◌==◌, Bool, true, false, List, [], ◌∷◌, take}
 
 -- the value of a bit, 0 or 1

@@ -35,7 +35,7 @@ hex_text (a ∷ b ∷ c ∷ d ∷ bits) = hex_text bits ++ hex_digit a b c d ∷
 abbrev pub digit_count : ℕ → ℕ
 digit_count n = (n + 3) / 4
 
--- the four bits of a digit in either case, the lowest first, or None for a byte that is not a digit
+-- the four bits of a hexadecimal digit in either case, the lowest first, or None for a byte that is not a digit
 abbrev pub digit_bits : ℕ → Option (List Bool)
 digit_bits c =
     if c == 48 then Some (false ∷ false ∷ false ∷ false ∷ []) else (

@@ -1,4 +1,4 @@
--- Rows of equal length that are kept side by side in words.
+-- Sixteen rows of equal length, stored side by side in words.
 use Rattle.std.specs.Prelude.{ℕ, ◌*◌, ◌/◌, ◌%◌, ◌^◌, ◌<◌, Bool, List, map, refl}
 use Rattle.std.specs.Coded.{Coded, code_by, coded×, coded_ℕ, coded_list}
 use Rattle.bt_bits.specs.Digits.{digit_bit, digit_row}

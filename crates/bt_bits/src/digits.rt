@@ -12,7 +12,7 @@ use crate::Line;
 // A value that no digit has. It marks a byte that is not a digit.
 const NO_VALUE: u8 = 16;
 
-// Returns the number of digits that `bits` bits need.
+// Returns the number of digits that `bits` bits need. There must be fewer than `2 ^ 63` bits.
 #[inline]
 pub fn digit_count(bits: usize) -> usize
     requires { bits < 2 ^ 63 }
@@ -21,7 +21,7 @@ pub fn digit_count(bits: usize) -> usize
     (bits + 3) / 4
 }
 
-/// Returns bit `k` of a digit. Bit 0 is the lowest.
+/// Returns bit `k` of a digit. Bit 0 is the lowest, and `k` must be less than 8.
 #[inline]
 pub fn digit_bit(digit: u8, k: u32) -> bool
     requires { k < 8 }
@@ -30,14 +30,14 @@ pub fn digit_bit(digit: u8, k: u32) -> bool
     (digit >> k) & 1 == 1
 }
 
-// Returns whether some digit has a bit that is 1.
+// Returns whether some bit of the digits is 1.
 pub fn has_one(digits: &[u8]) -> bool
     ensures { result ≡ list_any (λ x. not (x == 0)) digits.now }
 {
     digits.iter().any(|digit| *digit != 0)
 }
 
-// Returns the digit with its bit `k` replaced by `bit`.
+// Returns the digit with its bit `k` replaced by `bit`. `k` must be less than 4.
 #[inline]
 pub fn with_bit(digit: u8, k: u32, bit: bool) -> u8
     requires { k < 4 }
@@ -56,7 +56,7 @@ fn value(a: bool, b: bool, c: bool, d: bool) -> u8
     low + 4 * high
 }
 
-// Returns the digit of one to three bits, which are left after the last whole group of four.
+// Returns the digit of one to three bits. These are the bits after the last whole group of four.
 fn top_value(bits: &[bool]) -> u8
     requires some { 0 < length bits.now }
     requires few { length bits.now < 4 }
@@ -70,7 +70,7 @@ fn top_value(bits: &[bool]) -> u8
     }
 }
 
-// Fills `digits` with the digits of the bits, four bits for each digit.
+// Fills `digits` with the digits of the bits. There must be as many digits as the bits need.
 #[inline]
 fn fill_values(bits: &[bool], digits: &mut [u8])
     requires { length digits.old ≡ digit_count (length bits.now) }
@@ -87,7 +87,7 @@ fn fill_values(bits: &[bool], digits: &mut [u8])
 }
 
 // Replaces the content of the vector by the digits of `len` zero bits. The vector must have room
-// for them.
+// for them, and `len` must be less than `2 ^ 63`.
 pub fn make_zeros(len: usize, digits: &mut Vec<u8>)
     requires few { len < 2 ^ 63 }
     requires room { digit_count len ≤ vec_capacity digits.old }
@@ -98,7 +98,8 @@ pub fn make_zeros(len: usize, digits: &mut Vec<u8>)
     digits.resize(digit_count(len), 0).unwrap();
 }
 
-// Replaces the content of the vector by the digits of the bits. The vector must have room for them.
+// Replaces the content of the vector by the digits of the bits. The vector must have room for them,
+// and there must be fewer than `2 ^ 63` bits.
 pub fn copy_bits(bits: &[bool], digits: &mut Vec<u8>)
     requires few { length bits.now < 2 ^ 63 }
     requires room { digit_count (length bits.now) ≤ vec_capacity digits.old }
@@ -109,7 +110,7 @@ pub fn copy_bits(bits: &[bool], digits: &mut Vec<u8>)
     fill_values(bits, digits);
 }
 
-// Returns the hexadecimal character of a digit, in upper case.
+// Returns the hexadecimal character of a digit, in upper case. The digit must be less than 16.
 #[inline]
 fn digit_char(value: u8) -> u8
     requires { value < 16 }
@@ -122,7 +123,8 @@ fn digit_char(value: u8) -> u8
     }
 }
 
-// Fills `text` with the characters of the digits. The first digit is the rightmost character.
+// Fills `text` with the characters of the digits. The first digit is the rightmost character. Each
+// digit must be less than 16, and there must be as many characters as digits.
 #[inline]
 pub fn fill_text(digits: &[u8], text: &mut [u8])
     requires below { All (λ x. x < 16) digits.now }
@@ -136,6 +138,8 @@ pub fn fill_text(digits: &[u8], text: &mut [u8])
 }
 
 // Appends `count` characters of the digits' text to the line, from character `from` of the text on.
+// The text must have these characters, the line must have room for them, and each digit must be
+// less than 16.
 pub fn push_text(digits: &[u8], from: usize, count: usize, line: &mut Line)
     requires below { All (λ x. x < 16) digits.now }
     requires digits { from + count ≤ length digits.now }
@@ -162,7 +166,8 @@ fn value_of(c: u8) -> u8
 }
 
 // Fills `digits` with the values of the bytes, the rightmost byte first. Returns whether all bytes
-// are digits. The loop does not stop at a byte that is not a digit, so that it has only one exit.
+// are digits. There must be as many digits as bytes. The loop does not stop at a byte that is not a
+// digit, so that it has only one exit.
 fn fill_digits(text: &[u8], digits: &mut [u8]) -> bool
     requires { length digits.old ≡ length text.now }
     ensures { AreDigitsFrom text.now 0 digits.new result }
@@ -177,7 +182,7 @@ fn fill_digits(text: &[u8], digits: &mut [u8]) -> bool
     most < NO_VALUE
 }
 
-// Returns whether the bits of a digit from bit `count` on are all 0.
+// Returns whether the bits of a digit from bit `count` on are all 0. `count` must be 1, 2 or 3.
 fn is_digit_cut(digit: u8, count: usize) -> bool
     requires some { 0 < count }
     requires few { count < 4 }
@@ -191,7 +196,8 @@ fn is_digit_cut(digit: u8, count: usize) -> bool
     }
 }
 
-// Returns whether the bits of the digits from bit `len` on are all 0.
+// Returns whether the bits of the digits from bit `len` on are all 0. There must be as many digits
+// as `len` bits need.
 fn is_cut(digits: &[u8], len: usize) -> bool
     requires { length digits.now ≡ digit_count len }
     ensures { result ≡ list_all not (drop len (bits_of digits.now)) }
@@ -200,8 +206,9 @@ fn is_cut(digits: &[u8], len: usize) -> bool
     count == 0 || is_digit_cut(digits[len / 4], count)
 }
 
-// Reads the text as a field of `len` bits, and fills `digits` with its digits. Returns whether the
-// text is such a field.
+// Reads the text as a field of `len` bits, and fills `digits` with the digits of the field. Returns
+// whether the text is such a field. The text and `digits` must have as many digits as `len` bits
+// need.
 pub fn fill_field(text: &[u8], len: usize, digits: &mut [u8]) -> bool
     requires text { length text.now ≡ digit_count len }
     requires places { length digits.old ≡ digit_count len }
@@ -212,8 +219,9 @@ pub fn fill_field(text: &[u8], len: usize, digits: &mut [u8]) -> bool
     fill_digits(text, digits) && is_cut(digits, len)
 }
 
-// Like `fill_field`, but replaces the content of a vector, which must have room for the digits. If
-// the text is not such a field, the new content is the digits of `len` zero bits.
+// Like `fill_field`, but replaces the content of a vector. The vector must have room for the
+// digits. If the text is not a field of `len` bits, the new content is the digits of `len` zero
+// bits.
 pub fn read_field(text: &[u8], len: usize, digits: &mut Vec<u8>) -> bool
     requires few { len < 2 ^ 63 }
     requires digits { length text.now ≡ digit_count len }

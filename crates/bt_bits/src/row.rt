@@ -15,7 +15,7 @@ use std::alloc::{AllocError, Global};
 use std::marker::Model;
 use thiserror::Error;
 
-/// The reason for which a text is not the hexadecimal field of a row.
+/// The reason why a text is not the hexadecimal field of a row.
 #[derive(Clone, Copy, Debug, PartialEq, Eq, Error)]
 pub enum HexFault {
     /// The text has more or fewer digits than the bits need.
@@ -65,7 +65,7 @@ impl Row {
         })
     }
 
-    /// Replaces the row by `len` zeros.
+    /// Replaces the row by `len` zeros. The row must have room for them.
     pub fn clear(&mut self, len: u32)
         requires { len ≤ self.old.room }
         ensures bits { self.new.bits ≡ replicate len false }
@@ -75,7 +75,7 @@ impl Row {
         self.len = len;
     }
 
-    /// Replaces the bits of the row by `bits`. There must be room for them.
+    /// Replaces the bits of the row by `bits`. The row must have room for them.
     pub fn copy_from(&mut self, bits: &[bool])
         requires { length bits.now ≤ self.old.room }
         ensures bits { self.new.bits ≡ bits.now }
@@ -85,7 +85,7 @@ impl Row {
         self.len = bits.len() as u32;
     }
 
-    /// Replaces the bits of the row by the bits of another row. There must be room for them.
+    /// Replaces the bits of the row by the bits of another row. The row must have room for them.
     pub fn copy_row(&mut self, row: &Row)
         requires { length row.now.bits ≤ self.old.room }
         ensures bits { self.new.bits ≡ row.now.bits }
@@ -96,8 +96,8 @@ impl Row {
         self.len = row.len;
     }
 
-    /// Replaces the bits of the row by the bits of row `number` of a stack. There must be room for
-    /// them.
+    /// Replaces the bits of the row by the bits of row `number` of a stack. `number` must be less
+    /// than 16, and the row must have room for the bits.
     pub fn copy_stacked(&mut self, rows: &RowStack, number: u32)
         requires number { number < 16 }
         requires room { length (stacked rows.now number) ≤ self.old.room }
@@ -125,7 +125,7 @@ impl Row {
         self.len
     }
 
-    /// Returns bit `i`.
+    /// Returns bit `i`, which must be a bit of the row.
     #[inline]
     pub fn get(&self, i: u32) -> bool
         requires { i < length self.now.bits }
@@ -141,7 +141,7 @@ impl Row {
         has_one(&self.digits)
     }
 
-    /// Sets bit `i` to `bit`.
+    /// Sets bit `i`, which must be a bit of the row, to `bit`.
     #[inline]
     pub fn set(&mut self, i: u32, bit: bool)
         requires { i < length self.old.bits }
@@ -154,7 +154,8 @@ impl Row {
 
     /// Appends part of the row's hexadecimal field to the line, in upper case: `count` digits, from
     /// digit `from` on. Digits are counted from the left, from 0. The rightmost digit of the field
-    /// has the first four bits.
+    /// has the first four bits. The field must have these digits, and the line must have room for
+    /// them.
     pub fn put_hex(&self, from: u32, count: u32, line: &mut Line)
         requires digits { from + count ≤ digit_count (length self.now.bits) }
         requires room { length line.old + count ≤ 1024 }
@@ -163,10 +164,10 @@ impl Row {
         push_text(&self.digits, from as usize, count as usize, line);
     }
 
-    /// Reads `len` bits from a field of hexadecimal digits in either case. Returns `Length` if the
-    /// field does not have exactly one digit for every four bits, rounded up. Returns `Digit` if a
-    /// field of this length has a byte that is not a digit, or a bit from `len` on that is 1. In
-    /// both cases, the row then has `len` zeros.
+    /// Reads `len` bits from a field of hexadecimal digits in either case. The row must have room
+    /// for `len` bits. Returns `Length` if the field does not have exactly one digit for every four
+    /// bits, rounded up. Returns `Digit` if a field of this length has a byte that is not a digit,
+    /// or a bit from `len` on that is 1. In both cases, the row then has `len` zeros.
     pub fn read_hex(&mut self, text: &[u8], len: u32) -> Result<(), HexFault>
         requires { len ≤ self.old.room }
         ensures ok { OnOk result (field_bits len text.now ≡ Some self.new.bits) }
@@ -190,8 +191,9 @@ impl Row {
     }
 }
 
-/// Like `Row::read_hex`, but fills `digits` with the digits of the field. The first digit has the
-/// first four bits. On an error, the digits are unspecified.
+/// Like `Row::read_hex`, but fills `digits` with the digits of the field. There must be as many
+/// digits as `len` bits need. The first digit has the first four bits. On an error, the digits are
+/// unspecified.
 pub fn read_digits(text: &[u8], len: u32, digits: &mut [u8]) -> Result<(), HexFault>
     requires { length digits.old ≡ digit_count len }
     ensures ok { OnOk result (field_bits len text.now ≡ Some (digit_row len digits.new)) }

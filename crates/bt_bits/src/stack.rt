@@ -1,5 +1,5 @@
-// Rows of equal length that are kept side by side, so that one store sets the bits of all rows at a
-// place.
+// Sixteen rows of equal length, stored side by side, so that one memory write sets the bits of all
+// rows at a place.
 ghost use Rattle.std.specs.Prelude.{◌≡◌, ◌<◌, ◌≤◌, ◌*◌, ℕ, [], All, length, map, vec_capacity, IfOk, slice_set};
 ghost use Rattle.bt_bits.specs.Digits.{digit_bit};
 ghost use Rattle.bt_bits.specs.Stacks.{AreStacked, column_bit, digit_in, stacked};
@@ -10,11 +10,11 @@ use crate::digits::digit_count;
 use std::alloc::{AllocError, Global};
 use std::marker::Model;
 
-// A word in which each digit has only its lowest bit set.
+// A word of 16 hexadecimal digits, in which only the lowest bit of each digit is set.
 const LOWEST: u64 = 0x1111_1111_1111_1111;
 
-// Entry `d` spreads the four bits of `d` over four hex digits: bit `i` of `d` is the lowest bit of
-// digit `i`.
+// Entry `d` spreads the four bits of `d` over four hexadecimal digits: bit `i` of `d` is the lowest
+// bit of digit `i`.
 const SPREAD: [u64; 16] = [
     0x0000, 0x0001, 0x0010, 0x0011, 0x0100, 0x0101, 0x0110, 0x0111, 0x1000, 0x1001, 0x1010, 0x1011,
     0x1100, 0x1101, 0x1110, 0x1111,
@@ -27,7 +27,7 @@ pub struct Column {
 }
 
 impl Column {
-    /// Returns the column in which row `j` has bit `j` of the number. Bit 0 is the lowest.
+    /// Returns the column whose bit for row `j` is bit `j` of the number. Bit 0 is the lowest.
     #[inline]
     pub fn of(number: u32) -> Column
         ensures { (j : ℕ) → j < 16 → column_bit result j ≡ digit_bit number j }
@@ -54,8 +54,9 @@ impl Column {
     }
 }
 
-// Fills `digits` with the digits of row `number`. The function takes slices because the compiler
-// vectorizes such a loop over slices, but not over vectors.
+// Fills `digits` with the digits of row `number`, which must be less than 16. There must be as many
+// digits as words. The function takes slices because the compiler vectorizes such a loop over
+// slices, but not over vectors.
 fn fill_digits(words: &[u64], number: u32, digits: &mut [u8])
     requires number { number < 16 }
     requires places { length digits.old ≡ length words.now }
@@ -67,8 +68,8 @@ fn fill_digits(words: &[u64], number: u32, digits: &mut [u8])
     }
 }
 
-// Replaces the content of the vector by the digits of row `number`. The vector must have room for
-// them.
+// Replaces the content of the vector by the digits of row `number`, which must be less than 16. The
+// vector must have room for the digits.
 pub fn copy_digits(words: &[u64], number: u32, digits: &mut Vec<u8>)
     requires number { number < 16 }
     requires room { length words.now ≤ vec_capacity digits.old }
@@ -79,8 +80,8 @@ pub fn copy_digits(words: &[u64], number: u32, digits: &mut Vec<u8>)
     fill_digits(words, number, digits);
 }
 
-// Replaces the content of the vector by words in which each row has these digits. The vector must
-// have room for the words.
+// Replaces the content of the vector by words in which each row has these digits. Each digit must
+// be less than 16, and the vector must have room for the words.
 fn spread_digits(digits: &[u8], words: &mut Vec<u64>)
     requires below { All (λ x. x < 16) digits.now }
     requires room { length digits.now ≤ vec_capacity words.old }
@@ -93,7 +94,8 @@ fn spread_digits(digits: &[u8], words: &mut Vec<u64>)
     }
 }
 
-// Returns the word with bit `k` of each digit replaced by the column's bit for the digit's row.
+// Returns the word with bit `k` of each digit replaced by the column's bit for the digit's row. `k`
+// must be less than 4.
 #[inline]
 fn with_column(word: u64, k: u32, column: Column) -> u64
     requires { k < 4 }
