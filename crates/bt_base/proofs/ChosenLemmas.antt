@@ -11,7 +11,6 @@ within_more failing call most taken true rest =
     omega arith
 within_more failing call most taken false rest = rest most
 
--- the number of bytes that a put may take is at most `most`
 pub allowed_within : (failing : List FailingPut) (call most : ℕ) → allowed failing call most ≤ most
 allowed_within [] call most = omega arith
 allowed_within (f ∷ failing) call most = within_more failing call most f.taken (nat_eq f.call call) (λ m. allowed_within failing call m)
@@ -23,7 +22,6 @@ whole_more : (failing : List FailingPut) (call most taken : ℕ) (same : Bool)
 whole_more failing call most taken true none rest = let clash : true ≡ false = none in absurd cc
 whole_more failing call most taken false none rest = rest none
 
--- a put that is not chosen to fail may take all `most` bytes
 pub allowed_whole : (failing : List FailingPut) (call most : ℕ) → is_chosen call failing ≡ false → allowed failing call most ≡ most
 allowed_whole [] call most none = refl
 allowed_whole (f ∷ failing) call most none =

@@ -3,7 +3,6 @@ use Rattle.std.proofs.Common.{◌≡◌, ℕ, List, length, take, Option, None, 
 use Rattle.std.proofs.Math.Seq.{take-append_seam}
 use Rattle.std.specs.Io.KnownBytes.{Consumes}
 
--- the `n` bytes that a read took are the first `n` bytes that the reader had left
 pub consumes_first : (left rest : Option (List ℕ)) (xs : List ℕ) (n : ℕ) → Consumes left rest xs
     → length xs ≡ n → IfSome left (λ l. xs ≡ take n l)
 consumes_first None rest xs n took long = tt

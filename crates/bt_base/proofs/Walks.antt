@@ -1,4 +1,4 @@
--- A proof step that is common to the proofs about `src/asked.rt`. It assumes `Logic`.
+-- A proof step that all proofs about `src/asked.rt` share. It takes the program logic (`Logic`) as an argument.
 use Rattle.std.proofs.Common.{List, [], ◌∷◌, refl}
 use seplogic.Ra.Ura.{Ura}
 use mir.Val.{Val, vstruct, vnil}

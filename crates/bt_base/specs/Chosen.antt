@@ -3,7 +3,7 @@ use Rattle.std.specs.Prelude.{ℕ, ◌==◌, Bool, List, [], ◌∷◌, min, if�
 use Rattle.std.specs.List.{list_any}
 use Rattle.bt_base.specs.declared.memory.FailingPut.{FailingPut}
 
--- put number `call` is one of the puts that are chosen to fail
+-- true if put number `call` is chosen to fail
 abbrev pub is_chosen : ℕ → List FailingPut → Bool
 is_chosen call failing = list_any (λ f. f.call == call) failing
 

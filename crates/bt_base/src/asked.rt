@@ -1,5 +1,5 @@
-//! The names of the texts that were fetched from a store. Only proofs see these names. The list
-//! takes no memory, and its methods do nothing at run time.
+//! The names of the texts that were fetched from a store. Only proofs see them: the list takes no
+//! memory, and its methods do nothing at run time.
 ghost use Rattle.std.specs.Prelude.{◌≡◌, ℕ, List, [], ◌∷◌, ◌++◌};
 ghost use Rattle.std.specs.Borrow.{ftrue};
 

@@ -9,7 +9,7 @@ use crate::FetchFault;
 use std::io;
 use std::io::Read;
 
-/// A reader that remembers whether a read failed.
+/// A reader that remembers whether a read has failed.
 #[derive(Drop)]
 pub(crate) struct Watched<R> {
     from: R,
@@ -45,9 +45,9 @@ impl<R: Read> Read for Watched<R> {
     }
 }
 
-/// Reads all bytes that the reader has left into an empty vector. If there are more than `cap`
-/// bytes, reads `cap + 1` bytes and returns `TooLong`. Returns `Failed` if and only if a read
-/// fails.
+/// Reads all bytes that the reader has left into `into`, which must be empty. If there are more
+/// than `cap` bytes, reads `cap + 1` bytes and returns `TooLong`. Returns `Failed` if and only if a
+/// read fails.
 pub(crate) fn read_all<R: Read>(
     from: &mut Watched<R>,
     into: &mut Vec<u8>,
@@ -72,8 +72,8 @@ pub(crate) fn read_all<R: Read>(
     Err(FetchFault::TooLong)
 }
 
-// Reads at most `most` bytes once, and appends them. Returns how many bytes it read. This number is
-// 0 only at the reader's end.
+// Makes one read of at most `most` bytes, and appends them. Returns how many bytes it read, which
+// is 0 only at the reader's end. `most` must not be 0.
 fn read_some<R: Read>(
     from: &mut Watched<R>,
     into: &mut Vec<u8>,

@@ -4,7 +4,7 @@ ghost use Rattle.std.specs.Io.KnownBytes.{Appends, Keeps};
 
 use std::io;
 
-/// A writer that remembers whether it was flushed after its last write.
+/// A writer that remembers whether it has been flushed since its last write.
 #[derive(Drop)]
 pub(crate) struct Flushed<W> {
     to: W,

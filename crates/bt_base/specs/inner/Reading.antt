@@ -1,4 +1,4 @@
--- What a single read returns, and what reading an opened file returns.
+-- The results of a single read, and of reading an opened file.
 use Rattle.std.specs.Prelude.{◌≡◌, ℕ, ◌+◌, Bool, true, List, ◌++◌, length, take, ⊤, IfSome, IsOkAnd, IsErr, IsErrOf, OnOk, Option, Result, Ok, Err}
 use Rattle.std.specs.Io.KnownBytes.{Consumes, IsAtEnd}
 use Rattle.bt_base.specs.declared.reading.Watched.{Watched}
@@ -6,20 +6,19 @@ use Rattle.bt_base.specs.declared.store.FetchFault.{FetchFault}
 use Rattle.bt_base.specs.declared.store.FetchFault.TheVariants.{Failed, TooLong}
 use Rattle.bt_base.specs.Faults.{is_failed}
 
--- The read appended `n` bytes to the list, the next that the reader had left. The number `n` is 0
--- only at the reader's end.
+-- The read appended the next `n` bytes that the reader had left to the list. The number `n` is 0 only at the reader's
+-- end.
 abbrev pub GivesNext : Option (List ℕ) → Option (List ℕ) → List ℕ → List ℕ → ℕ → Type 0
 GivesNext left rest before now n =
     (bytes : List ℕ) × (now ≡ before ++ bytes) × (length bytes ≡ n) × Consumes left rest bytes × (n ≡ 0 → IsAtEnd rest)
 
--- the file could not be opened, or a read of it failed
+-- true if the file could not be opened or a read of it failed
 abbrev pub has_failed : {F E : Type 0} → Result (Watched F) E → Bool
 has_failed (Ok file) = file.failed
 has_failed (Err e) = true
 
--- `given` has bytes that the opened file had left: all of them on Ok, and the first `cap + 1` of
--- them if there are more than `cap`. The result is Failed if and only if the file could not be
--- opened or a read failed.
+-- `given` has bytes that the opened file had left. On Ok, it has all of them. If there are more than `cap` bytes, it
+-- has the first `cap + 1`. The result is Failed if and only if the file could not be opened or a read failed.
 pub record IsHandedOn {F E : Type 0} (remaining : F → Option (List ℕ)) (cap : ℕ)
     (opened left : Result (Watched F) E) (given : List ℕ) (result : Result ⊤ FetchFault) : Type 0
   where

@@ -1,4 +1,4 @@
--- The new list has the old names followed by one more. The proof assumes `Logic`.
+-- The new list has the old names followed by one more. The proof takes the program logic (`Logic`) as an argument.
 use Rattle.std.proofs.Common.{List, [], ◌∷◌, ◌++◌, refl}
 use seplogic.Ra.Ura.{Ura}
 use mir.Syntax.{Fn}

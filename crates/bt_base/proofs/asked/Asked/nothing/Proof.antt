@@ -1,4 +1,4 @@
--- A new list has no names. The proof assumes `Logic`.
+-- A new list has no names. The proof takes the program logic (`Logic`) as an argument.
 use Rattle.std.proofs.Common.{[], ◌∷◌, refl}
 use seplogic.Ra.Ura.{Ura}
 use mir.Syntax.{Fn}
