@@ -1,4 +1,4 @@
--- Lemmas about texts that are printed in pieces, of which the last may be cut short.
+-- Lemmas about a text that is printed in pieces. If a put fails, the text is cut short.
 use Rattle.std.proofs.Common.{◌≡◌, ℕ, ◌+◌, ◌-◌, ◌<◌, min, List, [], ◌∷◌, ◌++◌, length, take, refl, sym, ap, ◌∙◌, append_assoc, append-nil, arith, subst, Result, Ok, Err, IsErr, true, false, inl, inr, map, drop, Bor, get_or}
 use Rattle.std.proofs.Math.Seq.{take-add}
 use Rattle.std.proofs.lemmas.List.{drop_more, take_more, take-append-drop}
@@ -18,8 +18,6 @@ pub prints_to : {T E : Type 0} {old new : Shown} {p l m a : List ℕ} {r : Resul
     → Prints old new p l a r → Prints old new p m a r
 prints_to {T} {E} {old} {new} {p} {l} {m} {a} {r} same prints = subst (λ t. Prints old new p t a r) same prints
 
--- if nothing is put and the text is appended to the line, the contract of printing the text holds,
--- whatever value the Ok has
 pub prints_none : {T E : Type 0} {old : Shown} {p l a : List ℕ} (x : T) → l ≡ p ++ a → Prints {T = T} {E = E} old old p l a (Ok x)
 prints_none x holds = record { whole = inl (refl, holds); cut = tt; later = omega arith; cause = tt }
 
@@ -33,7 +31,6 @@ still_move m v l p a b first second = second ∙ ap (λ t. t ++ b) first ∙ app
 move_still : (u m l p a b : List ℕ) → u ++ m ≡ p ++ a → l ≡ m ++ b → u ++ l ≡ p ++ (a ++ b)
 move_still u m l p a b first second = ap (λ t. u ++ t) second ∙ sym (append_assoc u m b) ∙ ap (λ t. t ++ b) first ∙ append_assoc p a b
 
--- if the text `a` and then the text `b` go through the line, `a ++ b` goes through the line
 moves_twice : {old mid new : Shown} (p m l a b : List ℕ) → Moves old mid p m a → Moves mid new m l b → Moves old new p l (a ++ b)
 moves_twice {old} {mid} {new} p m l a b (inl (same, holds)) (inl (same', holds')) =
     inl (same' ∙ same, holds' ∙ ap (λ t. t ++ b) holds ∙ append_assoc p a b)
@@ -44,7 +41,6 @@ moves_twice {old} {mid} {new} p m l a b (inr (u, takes, holds)) (inl (same, hold
 moves_twice {old} {mid} {new} p m l a b (inr (u, takes, holds)) (inr (v, takes', holds')) =
     inr (u ++ v, takes_twice takes takes', two_moves u m v l p a b holds holds')
 
--- if `a` goes through the line and the put of `b` is cut short, the put of `a ++ b` is cut short
 cut_second : {old mid new : Shown} (p m a b : List ℕ) (k : ℕ) → Moves old mid p m a
     → Takes mid new (take k (m ++ b)) → (n : ℕ) × Takes old new (take n (p ++ (a ++ b)))
 cut_second {old} {mid} {new} p m a b k (inl (same, holds)) takes =
@@ -58,8 +54,7 @@ cut_second {old} {mid} {new} p m a b k (inr (u, first, holds)) takes = (
       (takes_twice first takes),
 )
 
--- if a first call prints `a` and returns Ok, and a second call prints `b`, both calls together
--- print `a ++ b`
+-- If a first call prints `a` and returns Ok, and a second call prints `b`, both calls together print `a ++ b`.
 pub prints_ok : {T U E F : Type 0} {old mid new : Shown} {p m l a b : List ℕ} {r : Result T E}
     {x : T} {s : Result U F} → Prints old mid p m a r → r ≡ Ok x → Prints mid new m l b s
     → Prints old new p l (a ++ b) s
@@ -82,8 +77,7 @@ prints_ok {T} {U} {E} {F} {old} {mid} {new} {p} {m} {l} {a} {b} {r} {x} {s} firs
       cause = rose_after first.later second.cause;
     }
 
--- if the call that prints `a` returns Err, and the whole call also returns Err, the whole call
--- meets the contract of printing `a ++ b`
+-- A caller that fails to print `a`, and returns Err, meets the contract of printing `a ++ b`.
 pub prints_err : {T U E F : Type 0} {old new : Shown} {p m l a : List ℕ} {r : Result T E} {e : E}
     {s : Result U F} → (b : List ℕ) → Prints old new p m a r → r ≡ Err e → IsErr s
     → Prints old new p l (a ++ b) s
@@ -106,7 +100,7 @@ prints_err {T} {U} {E} {F} {old} {new} {p} {m} {l} {a} {r} {e} {s} b first err i
       cause = cut.cause;
     }
 
--- if a call prints a text and returns Ok, the contract also holds for an Ok with any other value
+-- If a call prints a text and returns Ok, a caller may return Ok with any other value.
 pub prints_done : {T U E F : Type 0} {old new : Shown} {p l a : List ℕ} {r : Result T E} {x : T}
     {y : U} → Prints old new p l a r → r ≡ Ok x → Prints {T = U} {E = F} old new p l a (Ok y)
 prints_done {T} {U} {E} {F} {old} {new} {p} {l} {a} {r} {x} {y} prints ok = record {
@@ -116,8 +110,7 @@ prints_done {T} {U} {E} {F} {old} {new} {p} {l} {a} {r} {x} {y} prints ok = reco
   cause = tt;
 }
 
--- if a call puts the line's content followed by the text, and the line is then empty, the call
--- prints the text
+-- A call that writes the line and the text to the sink, and then has an empty line, prints the text.
 pub prints_put : {T E : Type 0} {old new : Shown} {p l a b : List ℕ} {r : Result T E}
     → Puts old new b r → b ≡ p ++ a → l ≡ [] → Prints old new p l a r
 prints_put {T} {E} {old} {new} {p} {l} {a} {b} {r} put same empty = by r put
@@ -136,8 +129,7 @@ prints_put {T} {E} {old} {new} {p} {l} {a} {b} {r} put same empty = by r put
       cause = put.cause;
     }
 
--- if a call prints a text that is not empty, and the line is empty before and after it, the call
--- puts the text
+-- A call that prints a nonempty text, and has an empty line before and after it, writes the text to the sink.
 pub puts_of : {T E : Type 0} {old new : Shown} {c : ℕ} {a : List ℕ} {r : Result T E}
     → Prints old new [] [] (c ∷ a) r → Puts old new (c ∷ a) r
 puts_of {T} {E} {old} {new} {c} {a} {r} prints = by r prints
@@ -158,7 +150,6 @@ lent-append : (a b : List (Bor (List ℕ))) → map (λ p. p.now) (a ++ b) ≡ m
 lent-append [] b = refl
 lent-append (x ∷ a) b = ap (λ t. x.now ∷ t) (lent-append a b)
 
--- the first `i` pieces followed by piece `i` are the first `i + 1` pieces
 pub whole-more : (pieces : List (Bor (List ℕ))) (i : ℕ) (d : Bor (List ℕ)) → i < length pieces
     → whole (map (λ p. p.now) (take i pieces)) ++ (get_or pieces i d).now ≡ whole (map (λ p. p.now) (take (i + 1) pieces))
 whole-more pieces i d within =
@@ -168,7 +159,6 @@ whole-more pieces i d within =
     (lent-append (take i pieces) (get_or pieces i d ∷ []))
     ∙ whole-append (map (λ p. p.now) (take i pieces)) ((get_or pieces i d).now ∷ []))
 
--- the first `i` pieces, piece `i` and the pieces after it are all pieces
 pub whole-split : (pieces : List (Bor (List ℕ))) (i : ℕ) (d : Bor (List ℕ)) → i < length pieces
     → whole (map (λ p. p.now) (take i pieces))
     ++ ((get_or pieces i d).now ++ whole (map (λ p. p.now) (drop (i + 1) pieces)))
@@ -181,8 +171,6 @@ whole-split pieces i d within =
     sym (ap (λ l. whole (map (λ p. p.now) l)) cut ∙ ap whole (lent-append (take i pieces) (get_or pieces i d ∷ drop (i + 1) pieces))
     ∙ whole-append (map (λ p. p.now) (take i pieces)) ((get_or pieces i d).now ∷ map (λ p. p.now) (drop (i + 1) pieces)))
 
--- the first `at` bytes of a text followed by its next `count` bytes are its first `at + count`
--- bytes
 pub taken_more : (at count : ℕ) (text : List ℕ) → take at text ++ take (at + count - at) (drop at text) ≡ take (at + count) text
 taken_more at count text =
     let same : at + count - at ≡ count = omega arith in

@@ -1,4 +1,4 @@
--- Lemmas about a loop that writes the texts of items in turn: printing the texts that are left
+-- Lemmas about a loop that prints the texts of items in turn. `Completes` says that printing the texts that are left
 -- completes the whole text.
 use Rattle.std.proofs.Common.{◌≡◌, ℕ, ◌+◌, ◌<◌, ◌≤◌, List, [], ◌++◌, length, get_or, drop, refl, sym, ap, ◌∙◌, Result, Ok, Err, IsErr}
 use Rattle.std.specs.List.{flat_map}

@@ -1,4 +1,4 @@
--- The contract of a call that prints a text, which goes through a line to a sink.
+-- The contract of a call that prints a text to a sink through a line.
 use Rattle.std.specs.Prelude.{◌≡◌, ◌⊎◌, ℕ, ◌≤◌, List, [], ◌∷◌, ◌++◌, take, Result, OnOk, OnErr, Bool, true, false, codes}
 use Rattle.std.specs.List.{flat_map}
 use Rattle.bt_base.specs.Counts.{Rose}
@@ -17,15 +17,15 @@ whole pieces = flat_map (λ piece. piece) pieces
 abbrev pub line_of : List (List ℕ) → List ℕ
 line_of pieces = whole pieces ++ 10 ∷ []
 
--- The text went through the line, which had the bytes `before` and then has the bytes `after`.
--- Either nothing was put, and `after` is `before` followed by the text. Or the bytes `put` were
--- put, and `put` followed by `after` is `before` followed by the text.
+-- The effect of printing `text` through a line, which had the bytes `before` and then has the bytes `after`. Either the
+-- sink took nothing, and `after` is `before` followed by the text. Or the sink took the bytes `put`, and `put` followed
+-- by `after` is `before` followed by the text.
 abbrev pub Moves : Shown → Shown → List ℕ → List ℕ → List ℕ → Type 0
 Moves old new before after text =
     ((new ≡ old) × (after ≡ before ++ text)) ⊎ ((put : List ℕ) × Takes old new put × (put ++ after ≡ before ++ text))
 
--- On Ok, the whole text was put or is in the line. On Err, the sink's fault count rose, and a
--- prefix of the line's bytes followed by the text was put.
+-- On Ok, the sink took the whole text or its end is still in the line. On Err, the sink's fault count rose, and the
+-- sink took a prefix of the line's bytes followed by the text.
 pub record Prints {T E : Type 0} (old new : Shown) (before after text : List ℕ) (result : Result T E) : Type 0 where
   pub whole : OnOk result (Moves old new before after text)
   pub cut : OnErr result ((k : ℕ) × Takes old new (take k (before ++ text)))

@@ -1,4 +1,4 @@
-//! Writes text line by line. The text of a line goes through a `Line`, whatever its length is.
+//! Writes text line by line through a `Line`. A line of the text may be longer than a `Line`.
 #![tactic(auto)]
 
 mod printing;

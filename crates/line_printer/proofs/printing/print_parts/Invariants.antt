@@ -3,7 +3,7 @@ use Rattle.bt_base.specs.declared.sink.PutFault.{PutFault}
 use Rattle.line_printer.specs.Prints.{Prints}
 use Rattle.line_printer.proofs.printing.print_parts.Given as goal
 
--- the first `at` bytes of the text were printed
+-- The first `at` bytes of the text were printed.
 abbrev pub invariant-loop-at : goal.invariant-loop-at
 invariant-loop-at g l = record {
   within : l.at ≤ length l.text;
