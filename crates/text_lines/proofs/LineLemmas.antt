@@ -9,7 +9,6 @@ use Rattle.std.proofs.lemmas.List.Splits.{slice_split-cons_yes, slice_split-cons
 use Rattle.std.proofs.lemmas.List.{take_rest, length-take-le}
 use Rattle.std.proofs.lemmas.Bool.{false≢true, not_from_false, false_from_ne_true}
 
--- if no byte passes the test, `position_or_len` is the length of the list
 pub no_place : (p : ℕ → Bool) (xs : List ℕ) → Nowhere (Passes p xs) 0 (length xs) → position_or_len p xs ≡ length xs
 no_place p xs nowhere =
     prefix_len_is (λ x. not (p x)) xs (length xs) 0 (omega arith)
@@ -17,7 +16,6 @@ no_place p xs nowhere =
     (false_from_ne_true (p (get_or xs k 0)) (nowhere k (omega arith) within)))
     (λ within. absurd (omega arith))
 
--- if byte `k` passes the test and no byte before it does, `position_or_len` is `k`
 pub first_place : (p : ℕ → Bool) (xs : List ℕ) (k : ℕ) → NoneBefore (Passes p xs) 0 (length xs) k → Passes p xs k → position_or_len p xs ≡ k
 first_place p xs k before passes =
     prefix_len_is (λ x. not (p x)) xs k 0 (omega (arith, before.high))
@@ -25,8 +23,6 @@ first_place p xs k before passes =
     (false_from_ne_true (p (get_or xs j 0)) (before.before j (omega arith) within)))
     (λ within. ap not passes)
 
--- if byte `k` is the first that passes, the bytes before it and the bytes behind it are the two
--- parts of the cut
 pub cut_there : (p : ℕ → Bool) (xs : List ℕ) (k : ℕ)
     → (NoneBefore (Passes p xs) 0 (length xs) k × Passes p xs k)
     → IsCutAt p xs (Some (take k xs, take (length xs - (k + 1)) (drop (k + 1) xs)))
@@ -37,7 +33,6 @@ cut_there p xs k (before, passes) =
       take_rest xs (k + 1) ∙ sym (ap (λ n. drop (n + 1) xs) place),
     )
 
--- the two parts of a cut together are no longer than the text
 pub cut_within : (p : ℕ → Bool) (text before behind : List ℕ)
     → IsCutAt p text (Some (before, behind)) → length before + length behind ≤ length text
 cut_within p text before behind (place, first, rest) =
@@ -57,19 +52,16 @@ split_behind : (p : ℕ → Bool) (x : ℕ) (xs : List ℕ) (b : Bool)
 split_behind p x xs true e ih = absurd (omega arith)
 split_behind p x xs false e ih = let same : position_or_len p xs ≡ length xs = omega arith in ap (onto_first x) (ih same)
 
--- if no byte passes, the list is split into only one piece, which is the list itself
 pub split_whole : (p : ℕ → Bool) (xs : List ℕ) → position_or_len p xs ≡ length xs → slice_split p xs ≡ xs ∷ []
 split_whole p [] h = refl
 split_whole p (x ∷ xs) h = split_behind p x xs (p x) (h ∙ omega arith) (split_whole p xs)
 
--- a line without bytes has no words
 pub words_of_empty : (line : List ℕ) → length line ≡ 0 → words_of line ≡ []
 unfolding words_of
 words_of_empty [] h = refl
 words_of_empty (b ∷ bs) h = absurd (omega arith)
 
--- one more than the number of bytes that are left, or 0 if no text is left; this number falls with
--- each line
+-- the number of bytes that are left plus one, or 0 if no text is left; this number falls with each line
 abbrev pub text_left : Option (List ℕ) → ℕ
 text_left None = 0
 text_left (Some text) = 1 + length text
@@ -79,7 +71,6 @@ unfolding words_of
 no_words view [] e h = omega arith
 no_words view (w ∷ ws) e h = cc e
 
--- a line that has words has bytes
 pub has_bytes : {A : Type 0} (view : A → List ℕ) (words : List A) (line : List ℕ)
     → map view words ≡ words_of line → 0 < length words → 0 < length line
 has_bytes view words [] e h = absurd (no_words view words e h)
@@ -88,8 +79,8 @@ has_bytes view words (b ∷ bs) e h = omega arith
 pub at_some : {A : Type 0} (P : A → Type 0) (o : Option A) (x : A) → o ≡ Some x → IfSome o P → P x
 at_some P o x e h = subst (λ v. IfSome v P) e h
 
--- if the number of a line plus the length of the text from this line on is at most `1 + b`, the
--- same is true of the next line
+-- One step of a loop over lines: the number of the current line, plus the length of the text from this line on, stays
+-- at most `1 + b`.
 pub next_place : {A : Type 0} (view : A → List ℕ) (r : Option A) (line text : List ℕ) (n b : ℕ)
     → IfSome r (λ rest. length line + length (view rest) + 1 ≡ length text)
     → n + length text ≤ 1 + b → IfSome r (λ rest. n + 1 + length (view rest) ≤ 1 + b)
@@ -107,14 +98,11 @@ abbrev pub bytes_left : Option (List ℕ) → ℕ
 bytes_left None = 0
 bytes_left (Some text) = length text
 
--- if the lines counted so far and the bytes that are left are at most `b`, the same is true of the
--- text that is left
 pub count_at : (left : Option (List ℕ)) (text : List ℕ) (count b : ℕ) → left ≡ Some text
     → count + bytes_left left ≤ b → count + length text ≤ b
 count_at left text count b is within = subst (λ (o : Option (List ℕ)). count + bytes_left o ≤ b) is within
 
--- if one more line is counted and has at least one byte, the lines counted so far and the bytes
--- behind the line are still at most `b`
+-- One step of a loop that counts nonempty lines: the count, plus the number of bytes that are left, stays at most `b`.
 pub count_more : {A : Type 0} (view : A → List ℕ) (r : Option A) (line text : List ℕ) (count b : ℕ)
     → IfSome r (λ rest. length line + length (view rest) + 1 ≡ length text)
     → IfNone r (length line ≡ length text)
@@ -128,7 +116,6 @@ pub count_same : {A : Type 0} (view : A → List ℕ) (r : Option A) (line text 
 count_same view None line text count b shorter within = omega arith
 count_same view (Some rest) line text count b shorter within = omega arith
 
--- a line has the same words with and without a blank in front
 pub words_of-blank : (b : ℕ) (bs : List ℕ) → is_line_blank b ≡ true → words_of (b ∷ bs) ≡ words_of bs
 unfolding words_of
 words_of-blank b bs blank =
@@ -140,7 +127,6 @@ taken_first : (b : ℕ) (bs : List ℕ) (pieces : List (List ℕ)) → not (b ==
 taken_first b bs pieces word =
     take_while-cons begins_no_comment (b ∷ bs) pieces ∙ ap (λ t. cond t ((b ∷ bs) ∷ take_while begins_no_comment pieces) []) word
 
--- if a line begins with a word, its words are this word followed by the words of the text behind it
 pub words_of-cons : (line before behind : List ℕ)
     → slice_split is_line_blank line ≡ before ∷ slice_split is_line_blank behind
     → begins_word before ≡ true → words_of line ≡ before ∷ words_of behind
@@ -150,7 +136,6 @@ words_of-cons line (b ∷ bs) behind split word =
     ap (λ pieces. take_while begins_no_comment (filter is_filled pieces)) split
     ∙ taken_first b bs (filter is_filled (slice_split is_line_blank behind)) word
 
--- if a text begins with a word, so does its part before the first blank
 pub begins_word-before : (text : List ℕ) → begins_blank text ≡ false → begins_word text ≡ true
     → begins_word (before_first is_line_blank text) ≡ true
 begins_word-before [] blank word = absurd (false≢true word)
@@ -168,7 +153,6 @@ comment_first b (piece ∷ pieces) comment =
     ∙ ap (λ t. cond t ((b ∷ piece) ∷ take_while begins_no_comment (filter is_filled pieces)) [])
     comment
 
--- a text that begins with neither a blank nor a word, which is empty or a comment, has no words
 pub words_of-comment : (text : List ℕ) → begins_blank text ≡ false → begins_word text ≡ false → words_of text ≡ []
 unfolding words_of
 words_of-comment [] blank word = refl
@@ -177,7 +161,6 @@ words_of-comment (b ∷ bs) blank word =
     (slice_split-cons_no is_line_blank b bs blank)
     ∙ comment_first b (slice_split is_line_blank bs) word
 
--- a text that begins with a word and has no blanks is one word
 pub words_of-whole : (text : List ℕ) → position_or_len is_line_blank text ≡ length text
     → begins_word text ≡ true → words_of text ≡ text ∷ words_of []
 unfolding words_of

@@ -9,7 +9,7 @@ Word = List ℕ
 abbrev pub is_newline : ℕ → Bool
 is_newline b = b == 10
 
--- the byte is a carriage return, a tab or a space
+-- true if the byte is a carriage return, a tab or a space
 abbrev pub is_line_blank : ℕ → Bool
 is_line_blank b = (b == 13) || (b == 9) || (b == 32)
 
@@ -30,7 +30,7 @@ words_of line = take_while begins_no_comment (filter is_filled (slice_split is_l
 abbrev pub most_word_bytes : ℕ
 most_word_bytes = 255
 
--- the word has 1 to 255 bytes, each from 33 to 126
+-- true if the word has 1 to 255 bytes, each from 33 to 126
 abbrev pub is_word : Word → Bool
 is_word word = is_filled word && nat_le (length word) most_word_bytes && list_all is_ascii_graphic word
 
@@ -39,19 +39,18 @@ abbrev pub lines_of : Option (List ℕ) → List (List ℕ)
 lines_of None = []
 lines_of (Some text) = slice_split is_newline text
 
--- the two parts are the bytes before and behind the first byte that passes the test; None if no
--- byte passes
+-- The parts are the bytes before and after the first byte that passes the test. None means that no byte passes.
 abbrev pub IsCutAt : (ℕ → Bool) → List ℕ → Option (List ℕ × List ℕ) → Type 0
 IsCutAt p text None = position_or_len p text ≡ length text
 IsCutAt p text (Some (before, behind)) =
     (position_or_len p text < length text) × (before ≡ before_first p text)
     × (behind ≡ after_first p text)
 
--- the text begins with a blank
+-- true if the text begins with a blank
 abbrev pub begins_blank : List ℕ → Bool
 begins_blank [] = false
 begins_blank (b ∷ bs) = is_line_blank b
 
--- the text begins with a byte other than `#`
+-- true if the text begins with a byte other than `#`
 abbrev pub begins_word : List ℕ → Bool
 begins_word text = is_filled text && begins_no_comment text

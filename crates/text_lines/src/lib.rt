@@ -27,7 +27,7 @@ pub fn is_filled(word: &[u8]) -> bool
     !word.is_empty()
 }
 
-/// Returns whether the word does not begin a comment.
+/// Returns whether the word begins no comment.
 pub fn begins_no_comment(word: &[u8]) -> bool
     ensures { result ≡ begins_no_comment word.now }
 {
@@ -37,7 +37,7 @@ pub fn begins_no_comment(word: &[u8]) -> bool
     }
 }
 
-/// Returns the words of a line. A comment at the end of the line has no words.
+/// Returns the words of a line up to a comment. Fails only if memory runs out.
 #[tactic(auto, unfolding(crate::specs::Words::words_of))]
 pub fn words(alloc: Global, line: &[u8]) -> Result<Vec<&[u8]>, AllocError>
     ensures { IfOk result (λ words. map (λ w. w.now) words.items ≡ words_of line.now) }
@@ -64,8 +64,8 @@ pub fn is_word(word: &[u8]) -> bool
     is_filled(word) && word.len() <= MOST_WORD_BYTES && is_graphic(word)
 }
 
-// Returns the place of the first byte that equals `byte`. Compares the first byte before the search
-// begins, since a text may have millions of empty lines.
+// Returns the place of the first byte that equals `byte`. Compares the first byte before it starts
+// a search, because a text may have millions of empty lines.
 fn place_of(text: &[u8], byte: u8) -> Option<usize>
     ensures { IsFirstByte (is_byte byte) text.now result }
 {
@@ -75,7 +75,7 @@ fn place_of(text: &[u8], byte: u8) -> Option<usize>
     }
 }
 
-/// Returns the parts before and behind the first byte that equals `byte`, or None if there is no
+/// Returns the parts before and after the first byte that equals `byte`, or None if there is no
 /// such byte.
 pub fn cut_at(text: &[u8], byte: u8) -> Option<(&[u8], &[u8])>
     ensures { IsCutAt (λ b. b == byte) text.now
@@ -87,7 +87,7 @@ pub fn cut_at(text: &[u8], byte: u8) -> Option<(&[u8], &[u8])>
     }
 }
 
-/// Returns the first line, and the text behind it if another line follows.
+/// Returns the first line, and the text after it if another line follows.
 pub fn first_line(text: &[u8]) -> (&[u8], Option<&[u8]>)
     ensures lines { slice_split is_newline text.now
         ≡ result.0.now ∷ lines_of (option_copied result.1) }
@@ -122,7 +122,7 @@ fn begins_word(line: &[u8]) -> bool
     is_filled(line) && begins_no_comment(line)
 }
 
-// Returns the parts before and behind the first blank, or None if there is no blank.
+// Returns the parts before and after the first blank, or None if there is no blank.
 fn cut_at_blank(text: &[u8]) -> Option<(&[u8], &[u8])>
     ensures { IsCutAt is_line_blank text.now (option_map (λ cut. (cut.0.now, cut.1.now)) result) }
 {
@@ -132,7 +132,8 @@ fn cut_at_blank(text: &[u8]) -> Option<(&[u8], &[u8])>
     }
 }
 
-// Returns the word at the front of the text, and the text behind it.
+// Returns the word at the front of the text, and the text after it. The text must begin with a
+// word.
 fn cut_word(text: &[u8]) -> (&[u8], &[u8])
     requires first { begins_blank text.now ≡ false }
     requires word { begins_word text.now ≡ true }
@@ -145,7 +146,7 @@ fn cut_word(text: &[u8]) -> (&[u8], &[u8])
     }
 }
 
-/// Returns the first word of a line and the text behind it, or None if the line has no word.
+/// Returns the first word of a line and the text after it, or None if the line has no word.
 pub fn next_word(line: &[u8]) -> Option<(&[u8], &[u8])>
     ensures words { MatchOption result (words_of line.now ≡ [])
         (λ cut. words_of line.now ≡ cut.0.now ∷ words_of cut.1.now) }
