@@ -1,5 +1,5 @@
-//! Relates a function's result to a definition of its value or fault. If memory ran out, nothing is
-//! claimed, since no definition speaks of memory.
+//! The relation between a function's result and the value or fault that a definition gives. It says
+//! nothing if memory ran out, because definitions do not model memory.
 //!
 //! The crate has only definitions (`specs/`).
 #![tactic(auto)]
