@@ -13,7 +13,6 @@ HasBit c w v = (j : ℕ) × (j < w) × (bit_at c j ≡ v)
 shifted : (c w v : ℕ) → HasBit (c / 2) w v → HasBit c (suc w) v
 shifted c w v h = (suc h.0, omega (arith, h.1), bit_at-suc c h.0 ∙ h.2)
 
--- if a code has `w + 1` bits, half of it has `w` bits
 half_below : (c w : ℕ) → c < 2 ^ suc w → c / 2 < 2 ^ w
 half_below c w h = omega (arith, pow-suc 2 w, h)
 

@@ -1,5 +1,5 @@
-//! A law that says that codes of the right width differ. The law is the contract of a function that
-//! does nothing. A caller knows the law after calling the function.
+//! A law: codes of the right width differ. The law is the contract of a function that does nothing.
+//! A caller knows the law after calling the function.
 ghost use Rattle.std.specs.Prelude.{◌≡◌, ◌≢◌, ℕ, ◌+◌, ◌^◌, ◌<◌, ◌≤◌};
 ghost use Rattle.std.specs.Int.{bit_at};
 

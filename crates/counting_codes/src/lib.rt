@@ -1,5 +1,5 @@
-//! Counting codes. The code of a net is its number, counted from 1. Codes have the smallest number of bits for which no
-//! code has only zeros or only ones.
+//! Counting codes. The code of a net is the net's number, counted from 1. Codes have the smallest
+//! number of bits for which no code has only zeros or only ones.
 #![tactic(auto)]
 
 ghost use Rattle.std.specs.Prelude.{◌≡◌, ◌==◌, ℕ, ◌+◌, ◌^◌, ◌<◌, ◌≤◌};
@@ -7,8 +7,8 @@ ghost use Rattle.std.specs.Int.{bit_at};
 
 pub mod law;
 
-/// Returns the number of bits of the codes from 1 to `n`. This is the smallest number of bits for
-/// which no code has only zeros or only ones.
+/// Returns the number of bits of the codes from 1 to `n`, which must be at most 16,382. This is the
+/// smallest number of bits for which no code has only zeros or only ones.
 pub fn width(n: u32) -> u32
     requires { n ≤ 16382 }
     ensures enough { n + 2 ≤ 2 ^ result }
@@ -23,7 +23,7 @@ pub fn width(n: u32) -> u32
     width
 }
 
-/// Returns bit `j` of a code. Bit 0 is the least significant.
+/// Returns bit `j` of a code. Bit 0 is the least significant, and `j` must be less than 32.
 pub fn bit(code: u32, j: u32) -> bool
     requires { j < 32 }
     ensures { result ≡ (bit_at code j == 1) }
