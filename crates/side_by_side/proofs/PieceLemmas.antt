@@ -1,5 +1,4 @@
--- Lemmas about the first items of pieces, and about facts about all items that follow from facts
--- about the items of each piece.
+-- Lemmas about where pieces begin, and about statements on all items that follow from statements on each piece.
 use Rattle.std.proofs.Common.{◌≡◌, ℕ, zero, suc, ◌+◌, ◌*◌, ◌/◌, ◌<◌, ◌≤◌, inl, inr, List, [], ◌∷◌, length, Result, Ok, Err, sym, ap, ◌∙◌, refl, append-nil, subst, arith}
 use Rattle.std.specs.Prelude.{slice_index_or}
 use Rattle.std.proofs.Math.Nat.{div-mul-le_self, mul-div_left, mul-le-mul_right}
@@ -10,13 +9,11 @@ use Rattle.side_by_side.specs.Pieces.{GivesTogether, IsOfPieces, piece_of, piece
 times_less : (p q m : ℕ) → p ≤ q → p * m ≤ q * m
 times_less p q m less = mul-le-mul_right m less
 
--- if `p` is at most `q`, piece `p` does not begin after piece `q`
 start_rises : (items pieces p q : ℕ) → 0 < pieces → p ≤ q → piece_start items pieces p ≤ piece_start items pieces q
 start_rises items pieces p q some less =
     le-div (p * items / pieces) (q * items) pieces some
     (omega (arith, div-mul-le_self (p * items) pieces, times_less p q items less))
 
--- piece 0 begins with item 0
 pub start_first : (items pieces : ℕ) → piece_start items pieces 0 ≡ 0
 start_first items pieces = grind arith
 
@@ -28,7 +25,6 @@ only_answer : {A : Type 0} (P : ℕ → A → Type 0) (answer : A) (number : ℕ
 only_answer P answer zero none less holds = holds
 only_answer P answer (suc number) none less holds = absurd (omega (arith, less))
 
--- if there is only one piece, its answer is the joined answer
 pub of_one_piece : {V T E : Type 0} (view : V → List T) (Gives : Piece → Result V E → Type 0)
     (IsRefusal : E → Type 0) (items : ℕ) (answer : Result V E) →
     Gives (piece_of items 1 0) answer → GivesTogether view Gives IsRefusal items 1 answer
@@ -56,8 +52,8 @@ of_one_piece view Gives IsRefusal items (Err fault) gives =
 
 -- `Says from to said` is a statement about the answer `said` for the items `from..to`
 module _ {T E : Type 0} (items : ℕ) (Says : ℕ → ℕ → Result (List T) E → Type 0) where
-  -- the statement is true of an empty range and an empty list; if it is true of each of two
-  -- neighboring ranges, it is true of the joined range and the joined answers
+  -- The statement holds for an empty range and an empty list. If it holds for two neighboring ranges, it holds for the
+  -- joined range and the joined answers.
   pub record IsOfRanges : Type 0 where
     pub nothing : (i : ℕ) → Says i i (Ok [])
     pub both : (from middle to : ℕ) (said later : Result (List T) E) → from ≤ middle → middle ≤ to
@@ -68,8 +64,7 @@ module _ {T E : Type 0} (items : ℕ) (Says : ℕ → ℕ → Result (List T) E 
     abbrev start : ℕ → ℕ
     start number = piece_start items pieces number
 
-    -- if the statement is true of each piece from piece `k` on, it is true of the items of these
-    -- pieces and their joined answers
+    -- If the statement holds for each piece from piece `k` on, it holds for all their items and their joined answers.
     from_piece : (answers : List (Result V E)) (k : ℕ) → k + length answers ≡ pieces
         → ((i : ℕ) (none : Result V E) → i < length answers
         → Says (start (k + i)) (start (k + i + 1))
@@ -94,8 +89,7 @@ module _ {T E : Type 0} (items : ℕ) (Says : ℕ → ℕ → Result (List T) E 
         (each (suc i) none (omega (arith, less)))) in
         ranges.both (start k) (start (k + 1)) items (seen_list view answer) (together view answers) low high (omega arith) here behind
 
-    -- if the statement is true of the items and the answer of each piece, and of a fault of memory,
-    -- it is true of all items and the result
+    -- If the statement holds for each piece, and for each fault of memory, it holds for all items and the result.
     pub of_pieces : (Gives : Piece → Result V E → Type 0) (IsRefusal : E → Type 0) (result : Result V E) →
         ((number : ℕ) (answer : Result V E) → number < pieces
         → Gives (piece_of items pieces number) answer

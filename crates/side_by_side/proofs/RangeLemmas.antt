@@ -5,7 +5,6 @@ use Rattle.std.proofs.lemmas.List.{drop_more, drop-drop}
 use Rattle.side_by_side.specs.Pieces.{items_between}
 
 module _ {X : Type 0} (items : List X) where
-  -- the items of `from..to` are the items of `from..middle` followed by the items of `middle..to`
   pub range_sum : (from middle to : ℕ) → from ≤ middle → middle ≤ to
       → items_between items from to
       ≡ items_between items from middle ++ items_between items middle to

@@ -3,15 +3,12 @@ use Rattle.std.proofs.Common.{◌≡◌, ℕ, ◌+◌, ◌-◌, ◌*◌, ◌<◌
 use Rattle.std.proofs.Math.Nat.{div-mul-le_self, lt-div-mul-add, lt_of_mul-lt-mul_right}
 use Rattle.side_by_side.specs.Pieces.{piece_start}
 
--- piece `number` begins at `number * items / pieces`, rounded down
 pub starts_low : (items pieces number : ℕ) → piece_start items pieces number * pieces ≤ number * items
 starts_low items pieces number = div-mul-le_self (number * items) pieces
 
 pub starts_high : (items pieces number : ℕ) → 0 < pieces → number * items < (piece_start items pieces number + 1) * pieces
 starts_high items pieces number some = omega (arith, lt-div-mul-add {a = number * items} {b = pieces} some)
 
--- the number of items in a piece, times `pieces`, is less than the number of all items plus
--- `pieces`
 size_most : (items pieces number : ℕ) → 0 < pieces
     → piece_start items pieces (number + 1) * pieces
     < items + (piece_start items pieces number + 1) * pieces
@@ -19,8 +16,6 @@ size_most items pieces number some =
     let next : (number + 1) * items ≡ number * items + items = omega arith in
     omega (arith, next, starts_low items pieces (number + 1), starts_high items pieces number some)
 
--- the number of items in a piece, times `pieces`, is greater than the number of all items minus
--- `pieces`
 size_least : (items pieces number : ℕ) → 0 < pieces
     → items + piece_start items pieces number * pieces
     < (piece_start items pieces (number + 1) + 1) * pieces
@@ -28,13 +23,10 @@ size_least items pieces number some =
     let next : (number + 1) * items ≡ number * items + items = omega arith in
     omega (arith, next, starts_high items pieces (number + 1) some, starts_low items pieces number)
 
--- if two pieces `first..end` and `start..stop` meet these bounds, the first has at most one item
--- more than the second
 sizes : (items pieces first end start stop : ℕ) → end * pieces < items + (first + 1) * pieces
     → items + start * pieces < (stop + 1) * pieces → end + start < stop + first + 2
 sizes items pieces first end start stop most least = lt_of_mul-lt-mul_right pieces (omega (arith, most, least))
 
--- a piece has at most one item more than any other piece
 pub even : (items pieces one other : ℕ) → 0 < pieces →
     piece_start items pieces (one + 1) - piece_start items pieces one
     ≤ piece_start items pieces (other + 1) - piece_start items pieces other + 1

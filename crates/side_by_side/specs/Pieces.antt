@@ -48,8 +48,7 @@ pub record IsOfPieces {V T E : Type 0} (view : V → List T) (Gives : Piece → 
   pub each : (number : ℕ) (none : Result V E) → number < pieces → Gives (piece_of items pieces number) (slice_index_or answers number none)
   pub is : together view answers ≡ said
 
--- the result is the joined answers of all pieces, or a fault for which `IsRefusal` is true, since
--- memory ran out
+-- The result is the joined answers of all pieces, or a fault of memory, for which `IsRefusal` is true.
 abbrev pub GivesTogether : {V T E : Type 0} → (V → List T) → (Piece → Result V E → Type 0) → (E → Type 0) → ℕ → ℕ → Result V E → Type 0
 GivesTogether view Gives IsRefusal items pieces (Ok all) = IsOfPieces view Gives items pieces (Ok (view all))
 GivesTogether view Gives IsRefusal items pieces (Err fault) = IsRefusal fault ⊎ IsOfPieces view Gives items pieces (Err fault)

@@ -1,5 +1,5 @@
-//! A law about how items are shared among pieces. The law is the contract of a function that does
-//! nothing. A caller knows the law after calling the function.
+//! A law about how pieces share items. The law is the contract of a function that does nothing. A
+//! caller knows the law after calling the function.
 ghost use Rattle.std.specs.Prelude.{◌≡◌, ℕ, ◌+◌, ◌-◌, ◌*◌, ◌<◌, ◌≤◌};
 ghost use Rattle.side_by_side.specs.Pieces.{piece_of};
 

@@ -1,4 +1,4 @@
-//! Work on many items, which is cut into pieces that run side by side.
+//! Cuts work on many items into pieces that run side by side.
 #![tactic(auto)]
 
 pub mod law;

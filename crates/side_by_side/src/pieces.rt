@@ -13,8 +13,8 @@ pub struct Piece {
     pub end: u64,
 }
 
-// Returns the number of the first item of piece `number`. If `number` is the number of pieces,
-// returns the number of items.
+// Returns the number of the first item of piece `number`, which must be at most `pieces`. If it is
+// equal to `pieces`, returns the number of items. `pieces` must not be 0.
 fn piece_start(items: u64, pieces: u32, number: u32) -> u64
     requires some { 0 < pieces }
     requires number { number ≤ pieces }
@@ -25,7 +25,7 @@ fn piece_start(items: u64, pieces: u32, number: u32) -> u64
     (sum / u128::from(pieces)) as u64
 }
 
-// Returns the piece with this number.
+// Returns the piece with this number, which must be less than `pieces`.
 fn piece_of(items: u64, pieces: u32, number: u32) -> Piece
     requires { number < pieces }
     ensures piece { result ≡ piece_of items pieces number }
@@ -39,7 +39,8 @@ fn piece_of(items: u64, pieces: u32, number: u32) -> Piece
     }
 }
 
-// Joins the lists of the answers in order. Returns the first fault if there is one.
+// Joins the lists of the answers in order. Returns the first fault if some answer is a fault, or
+// the fault of memory if memory runs out.
 fn together<T: Drop, E: From<AllocError> + Drop>(
     alloc: Global,
     answers: Vec<Result<Vec<T>, E>>,
@@ -60,7 +61,8 @@ fn together<T: Drop, E: From<AllocError> + Drop>(
 
 /// Cuts the items into `pieces` pieces, does the work on each piece, and joins the resulting lists
 /// in order. Returns the fault of the first piece that has a fault. If memory for the pieces
-/// themselves runs out, the call may return this fault instead.
+/// themselves runs out, the call may return the fault of memory instead. `pieces` must not be 0,
+/// and `work` must accept each piece.
 ///
 /// The numbers of items in any two pieces differ by at most one. The pieces run side by side. If
 /// there is only one piece, its list is returned unchanged and needs no more memory.
