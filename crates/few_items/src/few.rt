@@ -5,7 +5,7 @@ use std::alloc::{AllocError, Global};
 use std::marker::Model;
 use std::slice;
 
-// The items of a list. Up to two items are in the value itself, and a longer list is in a vector.
+// The storage of a list: up to two items are in the value itself, and more items are in a vector.
 #[derive(Debug, Drop)]
 enum Kept<T> {
     Nothing,
