@@ -1,4 +1,5 @@
--- A test that shows by computation that a written-out board keeps the rules of boards.
+-- A Boolean test of all rules of boards, and the proof that a board that passes it keeps the rules. The proofs about sample boards
+-- compute the test.
 use Rattle.std.proofs.Common.{◌≡◌, ◌≢◌, ℕ, ◌<◌, Bool, true, false, not, ◌&&◌, ◌||◌, List, length, Option, Some, None, refl, sym, ◌∙◌, ap, ◌⊎◌, inl, inr}
 use Rattle.std.specs.Prelude.{slice_get, All, nat_le, is_none, sum_by}
 use Rattle.std.specs.List.{list_any, list_all}
@@ -27,13 +28,14 @@ part_of : (kind : PartKind) → part_passes kind ≡ true → IsPart kind
 part_of (Described device) h = device_of device h
 part_of (Bypass n) h = let parts = and_parts (nat_le 2 n) (nat_le n 255) h in (leb-true 2 n parts.0, leb-true n 255 parts.1)
 
--- the test that no pin occurs twice in the nets
+-- the two pins have the same part and the same pin name
 abbrev same_name : NetPin → NetPin → Bool
 same_name p q = same_text p.part q.part && same_text p.pin q.pin
 
 abbrev nets_apart : Net → Net → Bool
 nets_apart x y = two_pass (λ p q. not (same_name p q)) x.pins y.pins
 
+-- no pin occurs twice in the nets
 abbrev pins_pass : RawBoard → Bool
 pins_pass b = list_all (λ net. later_pass (λ p q. not (same_name p q)) net.pins) b.nets && later_pass nets_apart b.nets
 
@@ -75,7 +77,7 @@ pins_of b h m n i j first second p q s t same_part same_pin = by_order (cases_or
         (later_by nets_apart b.nets parts.1 n m second first less t.on_board s.on_board)
         t.in_net s.in_net) (same_name_of q p (sym same_part) (sym same_pin)))
 
--- the test that each pin has its place in the chain
+-- the port bit exists, and its pin is `pin`
 abbrev placed_bit : NetPin → Option PortBit → Bool
 placed_bit pin None = false
 placed_bit pin (Some bit) = same_pin bit.pin (Some pin.pin)
@@ -88,6 +90,7 @@ abbrev placed_part : NetPin → PinAt → Option Part → Bool
 placed_part pin at None = false
 placed_part pin at (Some part) = same_text part.name pin.part && placed_device pin at (described part.kind)
 
+-- the place of the pin is right, or the pin has none and no described part has the name of its part
 abbrev placed_passes : RawBoard → NetPin → Option PinAt → Bool
 placed_passes b pin None = list_all (λ part. not (same_text part.name pin.part) || is_none (described part.kind)) b.chain
 placed_passes b pin (Some at) = placed_part pin at (slice_get b.chain at.part)
@@ -137,7 +140,7 @@ placed_of b pin (Some at) h = by_part (slice_get b.chain at.part) refl h
         let parts = and_parts (same_text part.name pin.part) (placed_device pin at (described part.kind)) k in
         by_device part e (text_of part.name pin.part parts.0) (described part.kind) refl parts.1
 
--- the test of the rule on inert parts
+-- the pin is not inert, or its part is not in the chain
 abbrev inert_passes : RawBoard → NetPin → Bool
 inert_passes b pin = not pin.inert || list_all (λ part. not (same_text part.name pin.part)) b.chain
 
@@ -170,7 +173,7 @@ inert_of b h k = record {
       t.in_net) (same_text_of p.part q.part same));
 }
 
--- the test of the rules on drivers that are always on
+-- a pin with an always-on driver is not on a supply net or on a net with a test pin
 abbrev drives_freely : RawBoard → Net → NetPin → Bool
 drives_freely b net pin = not (is_always_on (drive b net pin)) || (not net.supply && not (list_any (is_test_pin b) net.pins))
 
@@ -197,7 +200,7 @@ one_of b h n net i j p q en ei ej ne dp dq =
     (and_from (is_always_on (drive b net p)) (is_always_on (drive b net q)) (ap is_always_on dp) (ap is_always_on dq))
     (and_from (is_always_on (drive b net q)) (is_always_on (drive b net p)) (ap is_always_on dq) (ap is_always_on dp)))
 
--- the test of all rules of boards
+-- the board keeps all rules of boards
 abbrev pub board_passes : RawBoard → Bool
 board_passes b =
     nat_le 1 (length b.chain) &&

@@ -22,7 +22,6 @@ use Rattle.board_defs.specs.Pins.{described, instruction_length, instruction_bit
 use Rattle.board_defs.specs.BoardRules.{IsPart, Stands, IsPlaced, IsPlacedAt, IsBoard}
 use Rattle.board_defs.proofs.Places.{all_stands}
 
--- a pin of a net that has a place in the chain is at that place
 pub placed_at : (board : RawBoard) (n : ℕ) (net : Net) (i : ℕ) (pin : NetPin) (at : PinAt)
     → IsBoard board → Stands board n net i pin → pin.at ≡ Some at → IsPlacedAt board pin at
 placed_at board n net i pin at rules st e =
@@ -33,7 +32,6 @@ placed_at board n net i pin at rules st e =
     let P : Option PinAt → Type 0 = λ w. IsPlaced board pin w in
     subst P e there
 
--- pins at the same place of the chain have the same part and the same pin name
 same_pin : (board : RawBoard) (p q : NetPin) (at : PinAt) → IsPlacedAt board p at
     → IsPlacedAt board q at → (p.part ≡ q.part) × (p.pin ≡ q.pin)
 same_pin board p q at a b =
@@ -49,7 +47,7 @@ same_pin board p q at a b =
       same_Some p.pin q.pin (sym a.has_pin ∙ ap (λ (v : PortBit). v.pin) bit ∙ b.has_pin),
     )
 
--- no pin of the chain occurs twice in the nets
+-- two pins of the nets that have the same place in the chain are the same pin of the same net
 pub pins_once : (board : RawBoard) → IsBoard board
     → (n m : ℕ) (net other : Net) (i j : ℕ) (p q : NetPin) (at : PinAt)
     → slice_get board.nets n ≡ Some net → slice_get board.nets m ≡ Some other
@@ -63,7 +61,7 @@ pins_once board rules n m net other i j p q at en em ei ej pa qa =
     (placed_at board m other j q at rules t qa) in
     rules.pins_differ n m i j net other p q s t same.0 same.1
 
--- the chosen pin map has each pin of a net that has a place in the chain
+-- if a pin of a net has a place in the chain, the chosen pin map assigns a pin to the port bit at that place
 pub pins_stand : (board : RawBoard) → IsBoard board
     → (n : ℕ) (net : Net) (i : ℕ) (p : NetPin) (at : PinAt) → slice_get board.nets n ≡ Some net
     → slice_get net.pins i ≡ Some p → p.at ≡ Some at → is_pinned board at ≡ true
@@ -75,7 +73,6 @@ pins_stand board rules n net i p at en ei pa =
     let bit : bit_at board at ≡ Some w.bit = ap (option_and_then (λ (v : RawDevice). slice_get v.bits at.bit)) device ∙ w.in_device in
     ap is_some (ap (option_and_then (λ (v : PortBit). v.pin)) bit ∙ w.has_pin)
 
--- a part's instruction register has at most 255 bits
 part_length : (kind : PartKind) → IsPart kind → instruction_length kind ≤ 255
 part_length (Described device) h = h.ir_most
 part_length (Bypass n) h = h.1
@@ -98,7 +95,6 @@ instruction_bits_fit board chain rules e =
     let few : length board.chain ≤ 255 = rules.chain_most in
     subst P (sym e) (omega (arith, most, few))
 
--- the device of a described part keeps the rules of devices
 pub device_rules : (board : RawBoard) (k : ℕ) (device : RawDevice) → IsBoard board → device_at board k ≡ Some device → IsDevice device
 device_rules board k device rules e = by_part (slice_get board.chain k) refl e
   where
@@ -111,7 +107,6 @@ device_rules board k device rules e = by_part (slice_get board.chain k) refl e
     by_part None p f = cc f
     by_part (Some part) p f = by_kind part.kind (all_stands (λ (v : Part). IsPart v.kind) board.chain k part p rules.parts) f
 
--- the driving entry of a port bit is one of the device's entries
 entry_stands : (device : RawDevice) (bit : ℕ) (cell : Cell) → driving_entry device bit ≡ Some cell
     → (i : ℕ) × (slice_get device.cells i ≡ Some cell)
 entry_stands device bit cell e = found device.cells e
@@ -127,7 +122,6 @@ entry_stands device bit cell e = found device.cells e
         by_test rest true k = (0, k)
         by_test rest false k = let r = rest k in (suc r.0, r.1)
 
--- the control of a driver is a cell of its part
 pub control_is_cell : (board : RawBoard) (net : Net) (pin : NetPin) (c : Ctl) → IsBoard board
     → drive board net pin ≡ Some (By c) → IsCell board c
 control_is_cell board net pin c rules e = by_place pin.at e

@@ -21,7 +21,6 @@ pub on_is : (bit : ℕ) (o : Option ℕ) → is_on bit o ≡ true → o ≡ Some
 on_is bit None e = cc e
 on_is bit (Some b) e = ap Some (eqb-true b bit e)
 
--- no entry is on a port bit that does not exist
 pub off_past : (bits bit : ℕ) (cell : Cell) (on : Option ℕ) → HasPlace bits cell.role on → bits ≤ bit → is_on bit on ≡ false
 off_past bits bit cell None place past = refl
 off_past bits bit cell (Some b) place past = let less : b < bits = place.1 in ne_eqb b bit (λ e. omega (arith, less, past, e))

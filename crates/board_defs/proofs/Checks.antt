@@ -1,4 +1,5 @@
--- Tests that compute rules on lists. They show that a written-out device or board keeps the rules.
+-- Boolean tests for properties of lists, and what follows if a list passes them. The checks of sample devices and boards are built from
+-- these tests.
 use Rattle.std.proofs.Common.{◌≡◌, ◌≢◌, ℕ, zero, suc, ◌<◌, ◌==◌, Bool, true, false, not, ◌&&◌, ◌||◌, List, [], ◌∷◌, Some, refl, sym, ◌∙◌, ap, subst, arith, ◌⊎◌, inl, inr}
 use Rattle.std.specs.Prelude.{slice_get, All, AllPairs}
 use Rattle.std.specs.List.{list_all, range_with_len}
@@ -6,7 +7,6 @@ use Rattle.std.proofs.lemmas.Bool.{and_parts, and_from, eqb-true, eq-eqb, cases_
 use Rattle.std.proofs.lemmas.List.Elements.{All-cons, All-nil}
 use Rattle.board_defs.proofs.Members.{has_at, has_range, all_has}
 
--- if each item passes a test that implies `P`, `P` is true of each item
 pub all_by : {X : Type 0} (P : X → Type 0) (test : X → Bool) → ((x : X) → test x ≡ true → P x)
     → (xs : List X) → list_all test xs ≡ true → All P xs
 all_by P test gives [] h = All-nil P
@@ -18,11 +18,10 @@ pub item_by : {X : Type 0} (test : X → Bool) (xs : List X) (i : ℕ) (x : X) �
     → slice_get xs i ≡ Some x → test x ≡ true
 item_by test xs i x h e = all_has test xs x h (has_at xs i x e)
 
--- if each number below n passes the test, so does a number k below n
 pub below_by : (test : ℕ → Bool) (n k : ℕ) → list_all test (range_with_len 0 n) ≡ true → k < n → test k ≡ true
 below_by test n k h less = all_has test (range_with_len 0 n) k h (has_range 0 n k (omega arith) (omega arith))
 
--- each item passes together with each later item
+-- the test passes for each item and each later item
 abbrev pub later_pass : {X : Type 0} → (X → X → Bool) → List X → Bool
 later_pass test [] = true
 later_pass test (x ∷ xs) = list_all (test x) xs && later_pass test xs
@@ -52,7 +51,7 @@ pairs_by R test gives (x ∷ xs) h (suc i) (suc j) d less within =
     pairs_by R test gives xs (and_parts (list_all (test x) xs) (later_pass test xs) h).1 i j d
     (omega arith) (omega arith)
 
--- if no item clashes with a later one, two items that clash are at the same place
+-- if no item clashes with a later one, two items that clash are the same item
 pub one_by : {X : Type 0} (clash : X → X → Bool) (xs : List X)
     → later_pass (λ x y. not (clash x y)) xs ≡ true → (i j : ℕ) (x y : X) → slice_get xs i ≡ Some x
     → slice_get xs j ≡ Some y → clash x y ≡ true → clash y x ≡ true → i ≡ j
@@ -67,7 +66,7 @@ one_by {X} clash xs h i j x y ei ej c d = by_order (cases_order i j)
     by_order (inr (inl less)) = absurd (wrong (clash x y) c (later_by (λ a b. not (clash a b)) xs h i j x y less ei ej))
     by_order (inr (inr less)) = absurd (wrong (clash y x) d (later_by (λ a b. not (clash a b)) xs h j i y x less ej ei))
 
--- every item of the first list passes with every item of the second
+-- the test passes for each item of the first list and each item of the second
 abbrev pub two_pass : {X Y : Type 0} → (X → Y → Bool) → List X → List Y → Bool
 two_pass test xs ys = list_all (λ x. list_all (test x) ys) xs
 
@@ -76,7 +75,7 @@ pub two_by : {X Y : Type 0} (test : X → Y → Bool) (xs : List X) (ys : List Y
     → test x y ≡ true
 two_by test xs ys i j x y h ei ej = item_by (test x) ys j y (item_by (λ a. list_all (test a) ys) xs i x h ei) ej
 
--- a test of equality for texts
+-- the two texts are equal
 abbrev pub same_text : List ℕ → List ℕ → Bool
 same_text [] [] = true
 same_text [] (y ∷ ys) = false
@@ -105,7 +104,6 @@ texts_differ xs ys h e = wrong (same_text xs ys) (same_text_of xs ys e) h
     wrong true e f = cc f
     wrong false e f = cc e
 
--- if the test for an implication and the test of its premise pass, the conclusion is true
 pub implied : (a b : Bool) → (not a || b) ≡ true → a ≡ true → b ≡ true
 implied true b h e = h
 implied false b h e = cc e

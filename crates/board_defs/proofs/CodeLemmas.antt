@@ -1,4 +1,4 @@
--- The bits of instruction codes.
+-- Instruction codes without X are equal if their bits are equal.
 use Rattle.std.proofs.Common.{◌≡◌, ◌≢◌, List, [], ◌∷◌, map, refl, ◌∙◌, ap}
 use Rattle.std.specs.Prelude.{All}
 use Rattle.std.proofs.lemmas.List.Elements.{All-head, All-tail}
@@ -15,7 +15,6 @@ same_symbol One One gs gt e = refl
 same_symbol Zero One gs gt e = cc e
 same_symbol One Zero gs gt e = cc e
 
--- codes without X that have the same bits are equal
 pub same_code : (xs ys : List Symbol) → All (λ s. s ≢ Any) xs → All (λ s. s ≢ Any) ys → map bit_of xs ≡ map bit_of ys → xs ≡ ys
 same_code [] [] gx gy e = refl
 same_code [] (y ∷ ys) gx gy e = cc e
@@ -27,6 +26,5 @@ same_code (x ∷ xs) (y ∷ ys) gx gy e =
     ap (λ (s : Symbol). s ∷ xs) (same_symbol x y (All-head P x xs gx) (All-head P y ys gy) first)
     ∙ ap (λ (v : List Symbol). y ∷ v) (same_code xs ys (All-tail P x xs gx) (All-tail P y ys gy) rest)
 
--- the preload code and the EXTEST code differ in some bit
 pub code_bits_differ : (device : RawDevice) → HasCodes device → map bit_of device.sample ≢ map bit_of device.extest
 code_bits_differ device h e = h.codes_differ (same_code device.sample device.extest h.sample_given h.extest_given e)

@@ -21,7 +21,6 @@ same_equal a b h =
 pub same_refl : (c : Ctl) → same_ctl c c ≡ true
 same_refl c = and_from (c.part == c.part) (c.cell == c.cell) (eq-eqb c.part c.part refl) (eq-eqb c.cell c.cell refl)
 
--- control order is a strict and total order of controls
 precedes_not_same : (a b : Ctl) → precedes a b ≡ true → same_ctl b a ≡ false
 precedes_not_same a b h = grind (arith, nat_tests)
 
@@ -42,7 +41,6 @@ order_cons d list before rest i zero e less within = absurd (omega arith)
 order_cons d list before rest zero (suc j) e less within = before j e (omega arith)
 order_cons d list before rest (suc i) (suc j) e less within = rest i j e (omega arith) (omega arith)
 
--- if `d` does not precede the control, a list in order whose controls all come after `d` does not have the control
 none_after : (c d : Ctl) (list : List Ctl) → precedes d c ≡ false → All (λ e. IsTrue (precedes d e)) list → holds list c ≡ false
 none_after c d [] not_before after = refl
 none_after c d (e ∷ list) not_before after =
@@ -56,7 +54,7 @@ none_after c d (e ∷ list) not_before after =
         absurd (both_ways (precedes d c) not_before (ap (precedes d) (same_equal c e s) ∙ head))
     by_same rest false s = rest
 
--- the place of a control: the number of controls that precede it
+-- the place of a control in a list in control order: the number of controls of the list that precede it
 abbrev pub place : List Ctl → Ctl → ℕ
 place list c = prefix_len (λ d. precedes d c) list
 
@@ -70,7 +68,6 @@ is_there : Ctl → Option Ctl → Bool
 is_there c None = false
 is_there c (Some d) = same_ctl c d
 
--- a list in order has a control if and only if the control is at its place in the list
 holds_at_place : (c : Ctl) (list : List Ctl) → IsInControlOrder list → holds list c ≡ is_there c (slice_get list (place list c))
 unfolding is_there
 holds_at_place c [] h = refl
@@ -94,7 +91,6 @@ pub holds_none : (c : Ctl) (list : List Ctl) → IsInControlOrder list → slice
 unfolding is_there
 holds_none c list h e = holds_at_place c list h ∙ ap (is_there c) e
 
--- a control that the list lacks is inserted at its place in control order
 pub inserted_new : (c : Ctl) (list : List Ctl) → IsInControlOrder list → holds list c ≡ false
     → inserted c list ≡ insert list (place list c) c
 inserted_new c [] h out = refl
@@ -123,7 +119,6 @@ inserted_old c (d ∷ list) h there = by_before (inserted_old c list (order_tail
         (both_ways (holds list c) (none_after c d list b (order_head d list h))
         (sym (ap (λ t. t || holds list c) e) ∙ there))
 
--- if `P` is true of the control and of each control of the list, it is true of each control of the list with the control inserted
 inserted_all : (P : Ctl → Type 0) (c : Ctl) (list : List Ctl) → P c → All P list → All P (inserted c list)
 inserted_all P c [] here all = All-cons P c [] here all
 inserted_all P c (d ∷ list) here all = by_before (inserted_all P c list here (All-tail P d list all)) (precedes d c) (same_ctl c d)
@@ -151,7 +146,6 @@ order_inserted c (d ∷ list) h = by_before (order_inserted c list (order_tail d
         (λ k v less. precedes_trans c d (get_or list k v) before
         (order_head d list h k v less))) h
 
--- in a list in control order, the controls that precede `c` come first
 pub order_parts : (c : Ctl) (list : List Ctl) → IsInControlOrder list → IsPartitionedBy (λ d. precedes d c) list
 order_parts c list h i j e le within before = by_cases (cases_eq i j)
   where
@@ -178,8 +172,6 @@ point_place c (d ∷ list) (suc i) le h =
 pub same_order : (list new : List Ctl) → new ≡ list → IsInControlOrder list → IsInControlOrder new
 same_order list new e h = let P : List Ctl → Type 0 = λ v. IsInControlOrder v in subst P (sym e) h
 
--- if a control that the list lacks is inserted at its place, the new list is in control order, and it has the control and
--- those of the old list
 pub added : (c : Ctl) (list new : List Ctl) (k : ℕ) → IsInControlOrder list → holds list c ≡ false
     → k ≡ place list c → new ≡ insert list k c → new ≡ inserted c list
 added c list new k h out at e = e ∙ ap (λ n. insert list n c) at ∙ sym (inserted_new c list h out)

@@ -1,4 +1,4 @@
--- The tests of `Decided` decide the terms of coverage.
+-- The tests of `Decided.antt` agree with the terms of coverage.
 use Rattle.std.proofs.Common.{◌≡◌, ◌≢◌, ℕ, ◌<◌, true, false, not, ◌&&◌, ◌||◌, length, Option, Some, None, refl, sym, ◌∙◌, ap, subst, ◌⊎◌, inl, inr}
 use Rattle.std.specs.Prelude.{slice_get}
 use Rattle.std.specs.List.{list_any}
@@ -22,7 +22,7 @@ use Rattle.board_defs.proofs.Driving.{View, no_driver, always_on, by_control, on
 use Rattle.board_defs.proofs.Pairwise.{safe_within}
 use Rattle.board_defs.proofs.SafeSettings.{safe_from_nets, one_sided_off, alone_safe, safe_alone, together_safe, safe_together}
 
--- the setting without controls, which is safe, and the settings of the controls that drivers need
+-- the setting without controls
 abbrev pub nothing : Enabling
 nothing c = false
 
@@ -41,8 +41,6 @@ needed (Some (By c)) = just c
 abbrev pub either : Enabling → Enabling → Enabling
 either s t c = s c || t c
 
--- if a safe setting enables a driver, the test `can_enable` passes for that driver, and the setting has the control
--- that the driver needs
 pub can_enable_of : (board : RawBoard) (s : Enabling) (n : ℕ) (net : Net) (i : ℕ) (p : NetPin)
     → IsBoard board → IsSafe board s → slice_get board.nets n ≡ Some net
     → slice_get net.pins i ≡ Some p → enables board s p ≡ true →
@@ -81,7 +79,6 @@ needed_safe board (Some AlwaysOn) rules h = nothing_safe board rules
 needed_safe board (Some OneSided) rules h = cc h
 needed_safe board (Some (By c)) rules h = alone_safe board c rules h
 
--- a setting that has the control that a driver needs enables the driver
 pub needed_enables : (board : RawBoard) (net : Net) (p : NetPin) (s : Enabling)
     → can_enable board (drive board net p) ≡ true
     → ((c : Ctl) → needed (drive board net p) c ≡ true → s c ≡ true) → enables board s p ≡ true
@@ -93,7 +90,8 @@ needed_enables board net p s h within = from (view board net p)
     from (by_control b d f) = f s ∙ within b (ap (λ w. needed w b) d ∙ same_refl b)
     from (one_sided at cell control pa x k o w d f) = let wrong : false ≡ true = sym (ap (can_enable board) d) ∙ h in cc wrong
 
--- `is_tested_driver` decides whether a driver is tested
+-- If a safe setting observes the net by the driver at `place`, the test `is_tested_driver` passes, and the setting has the control that
+-- the driver needs.
 pub tested_driver_of : (board : RawBoard) (s : Enabling) (n : ℕ) (net : Net) (place : ℕ)
     → IsBoard board → IsSafe board s → slice_get board.nets n ≡ Some net
     → ObservesBy board s net place →
@@ -181,7 +179,6 @@ tested_driver_is board n net place rules en h = (
   (net, en, observes_of board (needed (place_drive board net place)) net place h (λ c k. k)),
 )
 
--- a tested driver is at a place of the net
 pub tested_below : (board : RawBoard) (net : Net) (place : ℕ) → is_tested_driver board net place ≡ true → place < length net.pins
 tested_below board net place h =
     let q : (p : NetPin)
@@ -207,7 +204,6 @@ covered_is board n net rules en h =
       (net, en, (r.number, observes_of board (needed d) net r.number r.passes (λ c k. k))),
     )
 
--- if two drivers are compatible, the setting of the controls that they need is safe
 pub compatible_safe : (board : RawBoard) (d e : Option Drive) → IsBoard board
     → are_compatible board d e ≡ true → IsSafe board (either (needed d) (needed e))
 compatible_safe board None e rules h = cc h
@@ -238,7 +234,6 @@ safe_compatible board s (Some (By c)) (Some (By b)) safe cd ce wd we =
     by_or a (inl k) = wd a k
     by_or a (inr k) = we a k
 
--- `are_paired` decides whether two nets are paired
 pub paired_true : (board : RawBoard) (m n : ℕ) (a b : Net) → IsBoard board
     → slice_get board.nets m ≡ Some a → slice_get board.nets n ≡ Some b → ArePaired board m n
     → are_paired board a b ≡ true
@@ -315,7 +310,6 @@ paired_is board m n a b rules ea eb ne h =
       ),
     )
 
--- `is_tested_receiver` decides whether a receiver is tested
 pub tested_receiver_true : (board : RawBoard) (n : ℕ) (net : Net) (place : ℕ) → IsBoard board
     → slice_get board.nets n ≡ Some net → IsTestedReceiver board n place
     → is_tested_receiver board net place ≡ true
@@ -380,7 +374,6 @@ tested_receiver_is board n net place rules en h =
       ),
     )
 
--- `is_useful` decides whether a control is useful
 pub useful_true : (board : RawBoard) (c : Ctl) → IsBoard board → IsUseful board c → is_useful board c ≡ true
 useful_true board c rules (safe, n, net, place, pin, en, ep, d, t) =
     and_from (is_safe_alone board c) (list_any (tests_by board c) board.nets) (safe_alone board c safe)

@@ -1,4 +1,5 @@
--- A test that shows by computation that a written-out device keeps the rules of devices.
+-- A Boolean test of all rules of devices, and the proof that a device that passes it keeps the rules. The proofs about sample devices
+-- compute the test.
 use Rattle.std.proofs.Common.{◌≡◌, ◌≢◌, ℕ, ◌<◌, ◌≤◌, ◌==◌, Bool, true, false, not, ◌&&◌, ◌||◌, List, [], ◌∷◌, length, map, Option, Some, None, refl, sym, ◌∙◌, ap, subst, arith, ◌⊎◌, inl, inr, get_or}
 use Rattle.std.specs.Prelude.{slice_get, nat_le, nat_lt, cond, Contains, is_some, is_none, count_by, IfSome, IsTrue}
 use Rattle.std.specs.List.{list_any, list_all, range_with_len}
@@ -22,7 +23,7 @@ use Rattle.board_defs.proofs.Members.{has_contains, any_has}
 use Rattle.board_defs.proofs.Checks.{all_by, item_by, below_by, later_pass, pairs_by, one_by, two_pass, two_by, same_text, same_text_of, texts_differ, implied, not_shared}
 use Rattle.board_defs.proofs.SameBits.{same_of_is_same, is_same_refl}
 
--- the test of the rules on codes
+-- the symbol is not X
 abbrev is_given : Symbol → Bool
 is_given Zero = true
 is_given One = true
@@ -43,7 +44,7 @@ zero_is Zero h = refl
 zero_is One h = cc h
 zero_is Any h = cc h
 
--- the test whether two codes have the same bits
+-- the two codes have the same length and the same bits, in which X counts as 0
 abbrev bits_same : List Symbol → List Symbol → Bool
 bits_same [] [] = true
 bits_same [] (t ∷ ts) = false
@@ -69,6 +70,7 @@ length_has : (code : Option (List Symbol)) (n : ℕ) → length_is code n ≡ tr
 length_has None n h = tt
 length_has (Some code) n h = eqb-true (length code) n h
 
+-- the device keeps the rules on codes
 abbrev codes_pass : RawDevice → Bool
 codes_pass d =
     (length d.sample == d.ir) &&
@@ -102,7 +104,7 @@ codes_of d h =
       idcode_length = length_has d.idcode 32 j.1;
     }
 
--- the test of the rules on ports
+-- A number for each mode. Two modes are equal if their numbers are.
 abbrev mode_number : Mode → ℕ
 mode_number Inward = 0
 mode_number Outward = 1
@@ -204,7 +206,6 @@ port_of bits h =
           (λ a b e. same_of_is_same (is_some a.pin) (is_some b.pin) e) bits b.1;
     }
 
--- if each number is at most each later number, the numbers do not decrease
 in_order : (ns : List ℕ) → later_pass nat_le ns ≡ true → IsNonDecreasing ns
 in_order ns h i j d le within = by_cases (cases_eq i j)
   where
@@ -212,6 +213,7 @@ in_order ns h i j d le within = by_cases (cases_eq i j)
     by_cases (inl e) = let same : get_or ns i d ≡ get_or ns j d = ap (λ k. get_or ns k d) e in omega (arith, same)
     by_cases (inr ne) = pairs_by (λ (a b : ℕ). a ≤ b) nat_le leb-true ns h i j d (omega arith) within
 
+-- the device keeps the rules on ports
 abbrev ports_pass : RawDevice → Bool
 ports_pass d =
     later_pass (λ a b. not (same_text a b)) d.ports &&
@@ -236,7 +238,7 @@ ports_of d h =
           (below_by (λ port. port_passes (bits_of_port d port)) (length d.ports) port c.1 less);
     }
 
--- the test of the rules on the test access port
+-- the mode is in or out
 abbrev is_tap_mode : Mode → Bool
 is_tap_mode m = (mode_number m == mode_number Inward) || (mode_number m == mode_number Outward)
 
@@ -265,6 +267,7 @@ tap_bit_of bit h t =
 abbrev taps_in : List PortBit → ℕ
 taps_in bits = count_by (λ bit. bit.tap && may_receive bit.mode) bits
 
+-- the port bits keep the rules on the test access port
 abbrev tap_passes : List PortBit → Bool
 tap_passes bits =
     list_all tap_bit_passes bits
@@ -285,7 +288,7 @@ tap_of bits h =
     by_count (inl e) = inl (eqb-true (taps_in bits) 3 e)
     by_count (inr e) = inr (eqb-true (taps_in bits) 4 e)
 
--- the test that no two port bits have the same pin
+-- both port bits have a pin, and it is the same pin
 abbrev pub same_pin : Option (List ℕ) → Option (List ℕ) → Bool
 same_pin None b = false
 same_pin (Some a) None = false
@@ -299,7 +302,7 @@ pins_of d h i j a b pin ei ej ea eb =
     one_by (λ (x y : PortBit). same_pin x.pin y.pin) d.bits h i j a b ei ej
     (same_pin_of a.pin b.pin pin ea eb) (same_pin_of b.pin a.pin pin eb ea)
 
--- the test of the rules on entries
+-- an entry with this function and this port bit keeps the rule `HasPlace`
 abbrev place_passes : ℕ → Role → Option ℕ → Bool
 place_passes bits role None = is_inner role
 place_passes bits role (Some bit) = not (is_inner role) && nat_lt bit bits
@@ -411,6 +414,7 @@ fits_of d h i b e bit ei eb en =
     let parts = and_parts (not bit.tap) (not (is_driving e.role) || may_drive bit.mode) there in
     (not-true bit.tap parts.0, λ drives. implied (is_driving e.role) (may_drive bit.mode) parts.1 drives)
 
+-- the device keeps the rules on entries of the boundary register
 abbrev cells_pass : RawDevice → Bool
 cells_pass d =
     list_all (λ e. nat_lt e.num d.boundary) d.cells &&
@@ -429,7 +433,7 @@ cells_pass d =
     (later_pass (λ x y. not (drive_one x y)) d.cells && list_all (λ e. fits d.bits e.role e.bit)
     d.cells)))))))))
 
--- the test of all rules of devices
+-- the device keeps all rules of devices
 abbrev pub device_passes : RawDevice → Bool
 device_passes d =
     nat_le 2 d.ir &&

@@ -1,4 +1,4 @@
--- The cases of how a pin's driver is enabled, each with the settings that enable it.
+-- The ways in which a pin's driver is enabled. For each way, the settings that enable the driver.
 use Rattle.std.proofs.Common.{◌≡◌, ◌==◌, Bool, true, false, Option, Some, None, refl, sym, ◌∙◌, ap}
 use Rattle.std.specs.Prelude.{option_map, if◌then◌else◌}
 use Rattle.std.proofs.lemmas.Bool.{eqb-true}
@@ -16,7 +16,7 @@ use Rattle.board_defs.specs.Settings.{Enabling, enables, enables_where, enables_
 use Rattle.board_defs.specs.Decided.{is_always_on, is_by}
 use Rattle.board_defs.proofs.ControlOrder.{same_equal, same_refl}
 
--- a case of `drive`, with the settings that enable the pin in that case
+-- a case of `drive`, and the settings that enable the pin in that case
 pub data View (board : RawBoard) (net : Net) (pin : NetPin) : Type 0 where
   no_driver : drive board net pin ≡ None → ((s : Enabling) → enables board s pin ≡ false) → View board net pin
   always_on : drive board net pin ≡ Some AlwaysOn → ((s : Enabling) → enables board s pin ≡ true) → View board net pin
@@ -96,7 +96,6 @@ is_by_drive c d h = ap (is_by c) h ∙ same_refl c
 pub is_always_drive : (d : Option Drive) → d ≡ Some AlwaysOn → is_always_on d ≡ true
 is_always_drive d h = ap is_always_on h
 
--- the settings that enable a driver with control `c` are those that have `c`
 pub by_enables : (board : RawBoard) (net : Net) (pin : NetPin) (c : Ctl)
     → drive board net pin ≡ Some (By c) → (s : Enabling) → enables board s pin ≡ s c
 by_enables board net pin c d s = from_view (view board net pin)

@@ -1,4 +1,4 @@
--- The items of the lists that list functions return.
+-- Which items the lists have that `map`, `filter` and other list functions return.
 use Rattle.std.proofs.Common.{◌≡◌, ℕ, zero, suc, ◌+◌, ◌<◌, ◌≤◌, Bool, true, false, List, [], ◌∷◌, ◌++◌, map, get_or, Option, Some, None, refl, sym, ◌∙◌, ap, subst, arith, cond, ◌⊎◌, inl, inr}
 use Rattle.std.specs.Prelude.{slice_get, filter, filter_map, find, All, Contains}
 use Rattle.std.specs.List.{list_any, list_all, cons_option, flat_map, enumerate_from, range_with_len}
@@ -146,7 +146,6 @@ enumerate_has {X} n (z ∷ xs) m x (inl e) =
     (0, omega (arith, at), ap Some (ap (λ (q : ℕ × X). q.1) e))
 enumerate_has {X} n (z ∷ xs) m x (inr h) = let r = enumerate_has (n + 1) xs m x h in (suc r.0, omega (arith, r.1), r.2)
 
--- the lists of pairs have exactly the pairs of the items
 pub has_pairs_of : {X : Type 0} (xs ys : List X) (x y : X) → Has xs x → Has ys y → Has (pairs_of xs ys) (x, y)
 has_pairs_of {X} xs ys x y h k =
     has_flat_map (λ a. map (λ b. let q : X × X = (a, b) in q) ys) xs x (x, y) h
@@ -210,7 +209,6 @@ pairs_within_has {X} (z ∷ xs) p h =
           at_high = r.at_high;
         }
 
--- a test of a list is about the items that the list has
 pub any_has : {X : Type 0} (p : X → Bool) (xs : List X) → list_any p xs ≡ true → (x : X) × Has xs x × (p x ≡ true)
 any_has p [] h = cc h
 any_has {X} p (z ∷ xs) h = by_part (any_has p xs) (or_cases (p z) (list_any p xs) h)
@@ -234,7 +232,6 @@ pub has_all : {X : Type 0} (p : X → Bool) (xs : List X) → ((x : X) → Has x
 has_all p [] h = refl
 has_all p (x ∷ xs) h = and_from (p x) (list_all p xs) (h x (inl refl)) (has_all p xs (λ y m. h y (inr m)))
 
--- a property of all items of a list is a property of each item that the list has, and conversely
 pub has_from_all : {X : Type 0} (P : X → Type 0) (xs : List X) (x : X) → All P xs → Has xs x → P x
 has_from_all P xs x all has = let at = has_place xs x has in all_stands P xs at.0 x at.1 all
 

@@ -11,7 +11,6 @@ abbrev pub InOrder : {X : Type 0} → (X → X → Type 0) → List X → Type 0
 InOrder R [] = Unit {0}
 InOrder {X} R (x ∷ xs) = ((y : X) → Has xs y → R x y) × InOrder R xs
 
--- if a list is in order, any item precedes any item at a later place
 pub order_pairs : {X : Type 0} (R : X → X → Type 0) (xs : List X) → InOrder R xs → AllPairs R xs
 order_pairs R [] h i j d less within = absurd (omega arith)
 order_pairs R (x ∷ xs) h i zero d less within = absurd (omega arith)
@@ -20,7 +19,6 @@ order_pairs {X} R (x ∷ xs) h zero (suc j) d less within =
     h.0 (get_or xs j d) (has_at xs j (get_or xs j d) (slice_get-get_or xs j d inside))
 order_pairs R (x ∷ xs) h (suc i) (suc j) d less within = order_pairs R xs h.1 i j d (omega arith) (omega arith)
 
--- conversely, if any item precedes any item at a later place, the list is in order
 pub pairs_order : {X : Type 0} (R : X → X → Type 0) (xs : List X) → AllPairs R xs → InOrder R xs
 pairs_order R [] pairs = tt
 pairs_order {X} R (x ∷ xs) pairs = (
@@ -48,8 +46,8 @@ order_append {X} R (x ∷ xs) ys h k across = (
     by_part y (inl m) = h.0 y m
     by_part y (inr m) = across x y (inl refl) m
 
--- if each item's list is in order, and the items of an earlier item's list precede those of a later item's list, the
--- joined lists are in order
+-- If `f` gives an ordered list for each item, and the items of `f x` precede those of `f z` whenever `x` precedes `z`, the joined lists
+-- are in order.
 pub order_flat_map : {X Y : Type 0} (S : X → X → Type 0) (R : Y → Y → Type 0) (f : X → List Y)
     (xs : List X) → InOrder S xs → ((x : X) → Has xs x → InOrder R (f x)) →
     ((x z : X) → S x z → (a b : Y) → Has (f x) a → Has (f z) b → R a b) → InOrder R (flat_map f xs)

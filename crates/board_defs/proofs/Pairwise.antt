@@ -1,4 +1,4 @@
--- A setting is safe if and only if each of its controls alone and every two of its controls are safe.
+-- On a board that keeps the rules, a setting is safe if and only if each of its controls alone and every two of its controls are safe.
 use Rattle.std.proofs.Common.{◌≡◌, ◌≢◌, ℕ, true, Option, Some, None, refl, ◌∙◌, ap, ◌⊎◌, inl, inr}
 use Rattle.std.specs.Prelude.{slice_get, option_map}
 use Rattle.std.proofs.lemmas.Bool.{both_ways, false_from_ne_true, or_left, or_right, or_cases}
@@ -24,7 +24,7 @@ both_first c d = or_left (same_ctl c c) (same_ctl c d) (same_refl c)
 both_second : (c d : Ctl) → both c d d ≡ true
 both_second c d = or_right (same_ctl d c) (same_ctl d d) (same_refl d)
 
--- a pin that a setting enables is a driver that is always on, or a control of the setting enables it
+-- Why a setting enables a pin: the pin's driver is always on, or the setting has a control that enables it.
 pub data Enabled (board : RawBoard) (setting : Enabling) (net : Net) (pin : NetPin) : Type 0 where
   always : drive board net pin ≡ Some AlwaysOn → ((other : Enabling) → enables board other pin ≡ true) → Enabled board setting net pin
   by_control : (c : Ctl) → setting c ≡ true
@@ -85,7 +85,6 @@ safe_from_pairs board setting rule h = record {
       (h.each c s).own at cell control pinned e k same (just_has c);
 }
 
--- every subset of a safe setting is safe
 pub safe_within : (board : RawBoard) (small big : Enabling)
     → ((c : Ctl) → small c ≡ true → big c ≡ true) → IsSafe board big → IsSafe board small
 safe_within board small big within h = record {

@@ -15,7 +15,6 @@ use Rattle.board_defs.proofs.Members.{Has, any_has, all_has}
 use Rattle.board_defs.proofs.Pairwise.{safe_within, safe_from_pairs}
 use Rattle.board_defs.proofs.SafeSettings.{alone_safe, together_safe, safe_together}
 
--- a setting holds the inserted control and the controls that it held before
 pub holds_inserted : (c d : Ctl) (list : List Ctl) → holds (inserted c list) d ≡ (same_ctl d c || holds list d)
 holds_inserted c d [] = refl
 holds_inserted c d (x ∷ list) = by_before (holds_inserted c d list) (precedes x c) (same_ctl c x) refl
@@ -96,7 +95,8 @@ held_fits board s c d f h =
 abbrev pub AllSafe : RawBoard → List Ctl → Type 0
 AllSafe board controls = (c : Ctl) → Has controls c → is_safe_alone board c ≡ true
 
--- if a walk accepts only controls that fit, every two controls of the setting are still together after the walk
+-- The walk accepts only controls that are together with every control of the setting so far. So every two controls of the setting are
+-- still together after the walk.
 walk_together : (board : RawBoard) (accepts : List Ctl → Ctl → Bool)
     → ((s : List Ctl) (c : Ctl) → accepts s c ≡ true → joins_setting board s c ≡ true)
     → (controls s : List Ctl) → IsBoard board → AllSafe board controls → AllTogether board s
@@ -146,7 +146,6 @@ driver_pass_together board useful passes d rules safe h =
     (first_walk_together board useful passes (with_driver [] d) rules safe
     (start_together board d rules h))
 
--- every two controls of the setting of two compatible drivers are together
 pub both_together : (board : RawBoard) (d e : Drive) → IsBoard board
     → are_compatible board (Some d) (Some e) ≡ true
     → AllTogether board (with_driver (with_driver [] d) e)
@@ -171,7 +170,6 @@ pair_pass_together board useful pair rules safe h =
     second_walk_together board useful (with_driver (with_driver [] pair.0) pair.1) rules safe
     (both_together board pair.0 pair.1 rules h)
 
--- a pass enables the drivers for which it is made
 pub with_enables : (s : List Ctl) (d : Drive) (board : RawBoard) → can_enable board (Some d) ≡ true → is_enabled (with_driver s d) d ≡ true
 with_enables s AlwaysOn board h = refl
 with_enables s OneSided board h = h

@@ -30,8 +30,6 @@ use Rattle.board_defs.proofs.Covered.{tested_can, tested_driver_is, tested_drive
 use Rattle.board_defs.proofs.PassSettings.{safe_setting, both_together, with_enables, with_keeps}
 use Rattle.board_defs.proofs.PassesKept.{Tested, tested_has, has_tested, enabled_needs, shows_observes, observes_shows}
 
--- the cells of the chain are in control order, since those of earlier parts come first and those of one part are in the
--- order of their numbers
 precedes_part : (a b : Ctl) → a.part < b.part → precedes a b ≡ true
 precedes_part a b less = or_left (nat_lt a.part b.part) ((a.part == b.part) && nat_lt a.cell b.cell) (lt-ltb a.part b.part less)
 
@@ -70,7 +68,6 @@ all_order board =
 useful_order : (board : RawBoard) → IsInControlOrder (useful_controls board)
 useful_order board = order_pairs Before (useful_controls board) (order_filter Before (is_useful board) (all_cells board) (all_order board))
 
--- a boundary cell of a described part is in the list of cells
 cell_has : (board : RawBoard) (c : Ctl) → IsCell board c → Has (all_cells board) c
 cell_has board c h = by_part (slice_get board.chain c.part) refl h
   where
@@ -111,7 +108,6 @@ useful_held board rules c = (is, held)
         (useful_true board c rules (safe, n, net, place, pin, en, ep, d, t)))
         (same_refl c)
 
--- the list `tested_drivers` has exactly the tested drivers of the net
 drivers_are : (board : RawBoard) → IsBoard board → (n : ℕ) (net : Net) (d : Drive)
     → slice_get board.nets n ≡ Some net
     → Contains (tested_drivers board net) d ↔ HasTestedDriver board n net d
@@ -149,7 +145,6 @@ driver_enabled board rules n net place pin OneSided pass st t e =
     let wrong : false ≡ true = sym (ap (can_enable board) (ap (drive_in board net) st.in_net ∙ e)) ∙ can in
     cc wrong
 
--- a control fits a setting if and only if it is together with every control of the setting
 fits_setting : (board : RawBoard) → IsBoard board → (setting : List Ctl) (c : Ctl)
     → Decides (joins_setting board setting c)
     ((d : Ctl) → holds setting d ≡ true → AreTogether board c d)
@@ -162,7 +157,6 @@ fits_setting board rules setting c = (
   λ all. has_all (are_together board c) setting (λ d m. safe_together board c d (all d (has_any (same_ctl d) setting d m (same_refl d)))),
 )
 
--- a useful control is new if and only if it enables a tested driver that no earlier pass enables
 new_control : (board : RawBoard) (earlier : List (List Ctl)) (c : Ctl) → IsUseful board c
     → Decides (is_new earlier c) (ControlsNew board earlier c)
 new_control board earlier c (safe, n, net, place, pin, en, ep, d, t) = (is, new)
@@ -193,7 +187,6 @@ new_control board earlier c (safe, n, net, place, pin, en, ep, d, t) = (is, new)
         let p = has_place earlier r.0 r.1 in
         k.new (p.0, r.0, p.1, by_enables board k.net k.pin c k.drives (holds r.0) ∙ r.2)))
 
--- two tested drivers are compatible if and only if the setting of their controls is safe
 pair_compatible : (board : RawBoard) → IsBoard board → (m n : ℕ) (a b : Net) (d e : Drive)
     → HasTestedDriver board m a d → HasTestedDriver board n b e
     → Decides (are_compatible board (Some d) (Some e))

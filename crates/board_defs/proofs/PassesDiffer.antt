@@ -5,7 +5,6 @@ use Rattle.board_defs.specs.declared.board.Ctl.{Ctl}
 use Rattle.board_defs.specs.declared.board.RawBoard.{RawBoard}
 use Rattle.board_defs.specs.Passes.{ArePasses, EnablesNew, ObservesNew}
 
--- an item before place `y` is among the first `y` items
 earlier_at : {A : Type 0} (items : List A) (x y : ℕ) (item : A) → x < y
     → slice_get items x ≡ Some item → slice_get (take y items) x ≡ Some item
 earlier_at [] x y item less at = cc at

@@ -22,7 +22,7 @@ use Rattle.board_defs.proofs.Driving.{by_enables}
 use Rattle.board_defs.proofs.Covered.{needed, net_same, tested_can, tested_below, tested_driver_of, tested_driver_is, observes_of, paired_is}
 use Rattle.board_defs.proofs.PassSettings.{AllTogether, AllSafe, safe_setting, driver_pass_together, pair_pass_together, driver_pass_enables, pair_pass_enables}
 
--- a tested driver of a net, with its place
+-- `d` is the way in which a tested driver of the net is enabled
 pub record Tested (board : RawBoard) (net : Net) (d : Drive) : Type 0 where
   pub place : ℕ
   pub tested : is_tested_driver board net place ≡ true
@@ -47,7 +47,6 @@ has_tested board net place d t e =
     (has_range 0 (length net.pins) place (omega arith) (omega arith))
     (ap (λ b. cond b (place_drive board net place) None) t ∙ e)
 
--- `place_drive` is not None at a tested driver
 pub tested_drives : (board : RawBoard) (net : Net) (place : ℕ)
     → is_tested_driver board net place ≡ true → (d : Drive) × (place_drive board net place ≡ Some d)
 tested_drives board net place t = by_drive (place_drive board net place) refl (tested_can board net place t)
@@ -59,7 +58,6 @@ tested_drives board net place t = by_drive (place_drive board net place) refl (t
 pub tested_can_drive : (board : RawBoard) (net : Net) (d : Drive) → Tested board net d → can_enable board (Some d) ≡ true
 tested_can_drive board net d t = ap (can_enable board) (sym t.drives) ∙ tested_can board net t.place t.tested
 
--- a setting that enables a driver has the control that the driver needs
 pub enabled_needs : (pass : List Ctl) (w : Option Drive) (d : Drive) → w ≡ Some d
     → is_enabled pass d ≡ true → (c : Ctl) → needed w c ≡ true → holds pass c ≡ true
 enabled_needs pass w d e h c k = by_drive d h (sym (ap (λ (v : Option Drive). needed v c) e) ∙ k)
@@ -76,7 +74,6 @@ enabled_observes board net place d pass t e h =
     observes_of board (holds pass) net place t
     (enabled_needs pass (place_drive board net place) d e h)
 
--- a setting that observes a net by a driver enables that driver
 observes_enabled : (board : RawBoard) (net : Net) (place : ℕ) (d : Drive) (pass : List Ctl)
     → can_enable board (Some d) ≡ true → place_drive board net place ≡ Some d
     → ObservesBy board (holds pass) net place → is_enabled pass d ≡ true
@@ -86,7 +83,6 @@ observes_enabled board net place (By c) pass can e o =
     let drives : drive board net o.pin ≡ Some (By c) = sym (ap (drive_in board net) o.stands) ∙ e in
     sym (by_enables board net o.pin c drives (holds pass)) ∙ o.enabled
 
--- a safe pass observes a net if and only if it enables one of the net's tested drivers
 pub shows_observes : (board : RawBoard) (net : Net) (pass : List Ctl)
     → shows (tested_drivers board net) pass ≡ true → Observes board (holds pass) net
 shows_observes board net pass h =
@@ -106,7 +102,7 @@ observes_shows board n net pass rules safe en (other, eo, (place, o)) =
     has_any (is_enabled pass) (tested_drivers board net) d.0 (has_tested board net place d.0 t d.1)
     (observes_enabled board net place d.0 pass (ap (can_enable board) (sym d.1) ∙ tested_can board net place t) d.1 here)
 
--- each pass has a reason: it enables a driver or observes two nets for the first time
+-- Why a pass is needed: it enables a tested driver, or observes two paired nets together, for the first time.
 abbrev Reason : RawBoard → List (List Ctl) → List Ctl → Type 0
 Reason board earlier pass = EnablesNew board earlier pass ⊎ ObservesNew board earlier pass
 
@@ -143,7 +139,7 @@ reason_at board earlier (q ∷ passes) (suc x) pass h e =
     subst P (append_assoc earlier (q ∷ []) (take x passes))
     (reason_at board (earlier ++ q ∷ []) passes x pass h.1 e)
 
--- the properties that the list of passes keeps when a pass is added
+-- Properties of a list of passes that adding a pass preserves: every two controls of a pass are together, and each pass is needed.
 pub record Good (board : RawBoard) (passes : List (List Ctl)) : Type 0 where
   pub together : (pass : List Ctl) → Has passes pass → AllTogether board pass
   pub reasons : Reasons board [] passes
@@ -169,14 +165,12 @@ good_safe : (board : RawBoard) (passes : List (List Ctl)) (pass : List Ctl) → 
     → Good board passes → Has passes pass → IsSafe board (holds pass)
 good_safe board passes pass rules good h = safe_setting board pass rules (good.together pass h)
 
--- if each step of a fold keeps `P`, the fold keeps `P`
 pub fold_keeps : {X Y : Type 0} (P : Y → Type 0) (Q : X → Type 0) (f : Y → X → Y)
     → ((y : Y) (x : X) → P y → Q x → P (f y x)) → (xs : List X) (y : Y) → ((x : X) → Has xs x → Q x)
     → P y → P (fold f y xs)
 fold_keeps P Q f step [] y all h = h
 fold_keeps P Q f step (x ∷ xs) y all h = fold_keeps P Q f step xs (f y x) (λ z k. all z (inr k)) (step y x h (all x (inl refl)))
 
--- if the step for an item makes a property true, and the other steps keep it, it is true at the end
 pub fold_makes : {X Y : Type 0} (P : Y → Type 0) (f : Y → X → Y)
     → ((y : Y) (x : X) → P y → P (f y x)) → (xs : List X) (y : Y) (x : X) → Has xs x
     → ((y : Y) → P (f y x)) → P (fold f y xs)
@@ -186,7 +180,6 @@ fold_makes {X} {Y} P f keeps (z ∷ xs) y x (inl e) makes =
     fold_keeps P (λ v. Unit {0}) f (λ w v k u. keeps w v k) xs (f y z) (λ v k. tt) (subst R (sym e) (makes y))
 fold_makes P f keeps (z ∷ xs) y x (inr h) makes = fold_makes P f keeps xs (f y z) x h makes
 
--- the useful controls are safe alone
 useful_safe : (board : RawBoard) → AllSafe board (useful_controls board)
 useful_safe board c h =
     (and_parts (is_safe_alone board c) (list_any (tests_by board c) board.nets)
@@ -235,7 +228,6 @@ on_board_driver board n net d en h =
     (tested_drivers board net) d
     (has_at (drivers_by_net board) n (tested_drivers board net) (in_nets board n net en)) h
 
--- if no earlier pass enables a driver, the pass that is made for the driver has a reason
 driver_reason : (board : RawBoard) (useful : List Ctl) (passes : List (List Ctl)) (d : Drive)
     → IsBoard board → OnBoard board d → list_any (λ pass. is_enabled pass d) passes ≡ false
     → EnablesNew board passes (driver_pass board useful passes d)
@@ -282,7 +274,7 @@ good_drivers board rules =
     (λ passes d good o. good_driver board (useful_controls board) passes d rules
     (useful_safe board) good o) (all_drivers board) [] (driver_on_board board) (good_none board)
 
--- the two lists are those of the tested drivers of two nets, the first of which has the lower number
+-- the two lists are the tested drivers of two nets, and the first net has the lower number
 pub record OfNets (board : RawBoard) (nets : List Drive × List Drive) : Type 0 where
   pub low : ℕ
   pub high : ℕ
@@ -301,7 +293,7 @@ of_nets board nets h =
       second = of_net board a.high nets.1 a.at_high;
     }
 
--- two tested drivers, one of each net, for which a pass can be made
+-- two compatible tested drivers, one of each net
 pub record Compatible (board : RawBoard) (a b : Net) (pair : Drive × Drive) : Type 0 where
   pub first : Tested board a pair.0
   pub second : Tested board b pair.1
@@ -336,7 +328,6 @@ compatible_paired board a b pair c =
     (below_at (length b.pins) (are_paired_at board a b c.first.place) c.second.place
     (tested_below board b c.second.place c.second.tested) here)
 
--- the pass that is made for the first compatible drivers enables a driver of each net
 pub pair_shows : (board : RawBoard) (useful : List Ctl) (a b : Net) (pair : Drive × Drive)
     → first_pair board (tested_drivers board a) (tested_drivers board b) ≡ Some pair
     → (shows (tested_drivers board a) (pair_pass board useful pair)
@@ -352,7 +343,6 @@ pair_shows board useful a b pair e =
     (has_any (is_enabled (pair_pass board useful pair)) (tested_drivers board a) pair.0 s.0 on.0)
     (has_any (is_enabled (pair_pass board useful pair)) (tested_drivers board b) pair.1 s.1 on.1)
 
--- the pass that is made for compatible drivers observes both nets
 pair_observes : (board : RawBoard) (useful : List Ctl) (a b : Net) (pair : Drive × Drive)
     → Compatible board a b pair
     → Observes board (holds (pair_pass board useful pair)) a

@@ -19,14 +19,13 @@ use Rattle.board_defs.proofs.Covered.{net_same, tested_can, tested_driver_of, pa
 use Rattle.board_defs.proofs.PassSettings.{driver_pass_enables, safe_setting}
 use Rattle.board_defs.proofs.PassesKept.{Good, good_passes, reason_at, fold_keeps, fold_makes, all_drivers, on_board_driver, has_tested, tested_drives, in_nets, enabled_observes, shows_observes, Compatible, pair_shows}
 
--- some pass enables the driver (`Enabled`), or observes both nets (`Shown`); this stays true when passes are added
+-- some pass enables the driver
 abbrev pub Enabled : Drive → List (List Ctl) → Type 0
 Enabled d passes = list_any (λ pass. is_enabled pass d) passes ≡ true
 
 abbrev Shown : List Drive → List Drive → List (List Ctl) → Type 0
 Shown a b passes = are_shown passes a b ≡ true
 
--- if one of the passes has a property, this is still so after a step for a driver
 pub driver_keeps : (p : List Ctl → Bool) (board : RawBoard) (useful : List Ctl)
     (passes : List (List Ctl)) (d : Drive) → list_any p passes ≡ true
     → list_any p (add_for_driver board useful passes d) ≡ true
@@ -49,7 +48,6 @@ nets_keep p board useful passes nets h = by_test (are_shown passes nets.0 nets.1
     by_test true = h
     by_test false = by_pair (first_pair board nets.0 nets.1)
 
--- after the step for a driver that can be enabled, some pass enables the driver
 pub driver_enabled : (board : RawBoard) (useful : List Ctl) (passes : List (List Ctl)) (d : Drive)
     → can_enable board (Some d) ≡ true → Enabled d (add_for_driver board useful passes d)
 driver_enabled board useful passes d can = by_test (list_any (λ pass. is_enabled pass d) passes) refl
@@ -86,7 +84,6 @@ drivers_tested board rules n place (s, safe, (net, en, o)) =
     let p = has_place (passes_of board) r.0 r.1 in
     (p.0, r.0, p.1, (net, en, enabled_observes board net place d.0 r.0 t d.1 r.2))
 
--- for every two paired nets, some pass observes both
 paired_compatible : (board : RawBoard) (a b : Net) → are_paired board a b ≡ true → (pair : Drive × Drive) × Compatible board a b pair
 paired_compatible board a b h =
     let r : FoundBelow (length a.pins) (λ i. any_below (length b.pins) (are_paired_at board a b i))

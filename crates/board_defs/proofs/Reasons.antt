@@ -21,7 +21,6 @@ none_is : (d : Option Drive) → is_some d ≡ false → d ≡ None
 none_is None h = refl
 none_is (Some d) h = cc h
 
--- the test for a net without drivers passes if and only if no pin of the net is a driver
 no_driver : (board : RawBoard) (n : ℕ) (net : Net)
     → not (list_any (λ p. is_some (drive board net p)) net.pins) ≡ true → HasNoDriver board n net
 no_driver board n net h place pin st =
@@ -39,7 +38,6 @@ some_driver board n net en h none =
     (not-false (list_any (λ (p : NetPin). is_some (drive board net p)) net.pins) h) in
     both_ways (is_some (drive board net r.item)) (ap is_some (none r.place r.item (record { on_board = en; in_net = r.stands }))) r.passes
 
--- the test for a blocked net passes if and only if no safe setting enables a driver on the net
 blocked : (board : RawBoard) (n : ℕ) (net : Net) → IsBoard board
     → not (list_any (λ p. can_enable board (drive board net p)) net.pins) ≡ true
     → IsBlocked board n net
@@ -63,7 +61,6 @@ some_can board n net rules en h blocks =
     (blocks (needed d) r.place r.item (needed_safe board d rules r.passes) (record { on_board = en; in_net = r.stands }))
     (needed_enables board net r.item (needed d) r.passes (λ c k. k))
 
--- no reason with a rank below `limit` applies
 none_below : (board : RawBoard) (n : ℕ) (net : Net) (limit : ℕ) → limit ≤ 5 →
     (0 < limit → net.supply ≡ false) → (1 < limit → list_any (is_test_pin board) net.pins ≡ false)
     → (2 < limit → list_any (is_dark board) net.pins ≡ false) →

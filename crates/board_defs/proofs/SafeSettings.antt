@@ -1,4 +1,4 @@
--- The tests of single controls and of pairs of controls decide when their settings are safe.
+-- The tests of single controls and of pairs of controls pass if and only if the settings of these controls are safe.
 use Rattle.std.proofs.Common.{◌≡◌, ◌≢◌, ℕ, ◌<◌, ◌==◌, Bool, true, false, not, ◌&&◌, ◌||◌, length, Option, Some, None, refl, sym, ◌∙◌, ap, subst, ◌⊎◌, inl, inr, cond}
 use Rattle.std.specs.Prelude.{slice_get, option_and_then, is_some}
 use Rattle.std.specs.List.{list_any, list_all}
@@ -46,7 +46,6 @@ pulled_some : (value : Bool) (pull : Option Bool) → is_pulled_to value pull �
 pulled_some value None h = cc h
 pulled_some value (Some b) h = ap Some (sym (same_of_is_same value b h))
 
--- a one-sided pin at this place is not enabled
 pub one_sided_off : (board : RawBoard) (s : Enabling) → IsBoard board → OwnSwitches board s
     → (n : ℕ) (net : Net) (i : ℕ) (p : NetPin) → Stands board n net i p →
     (at : PinAt) (cell : Cell) (control : Control) → p.at ≡ Some at → entry_at board at ≡ Some cell
@@ -67,7 +66,6 @@ one_sided_off board s rules own n net i p st at cell control pa e k o w on =
         (not_from_false (guarded board net) (ap (guarded board) same ∙ g))
         (pulled_true control.disable net.pull (ap (λ (v : Net). v.pull) same ∙ pull)))
 
--- the test of a single control has two parts: each net admits the control, and the control enables no one-sided driver
 own_where_is : (cell : Cell) (ctl : Option Control) (control : Control)
     → own_where cell ctl ≡ Some control → (ctl ≡ Some control) × (control.cell ≡ cell.num)
 own_where_is cell None control h = cc h
@@ -163,7 +161,6 @@ one_sided_by_is board cell at ctl control e c p w =
     (and_from (control.cell == cell) (is_pinned board at) (ap (λ n. control.cell == n) (sym c) ∙ (eq-eqb control.cell control.cell refl)) p)
     (not_from_false (is_switching board at control.disable) w)
 
--- if the control enables no one-sided driver, every driver that it enables by the driver's own cell is a switching driver
 pub own_from_test : (board : RawBoard) (c : Ctl) → enables_one_sided board c ≡ false → OwnSwitches board (just c)
 own_from_test board c h at cell control pinned e k o on =
     let same : record { part = at.part; cell = control.cell } ≡ c = same_equal (record { part = at.part; cell = control.cell }) c on in
@@ -221,7 +218,8 @@ test_from_own board c own = false_from_ne_true (enables_one_sided board c) (λ h
     from : FoundBelow (count_port_bits board c.part) F → ⊥
     from r = let at : PinAt = record { part = c.part; bit = r.number } in by_entry at refl (entry_at board at) refl r.passes
 
--- the conditions of safety on the nets, for a setting that enables no one-sided driver
+-- The conditions of safety on nets: no two controlled drivers of a net are enabled, and none is enabled on a closed net. They suffice for
+-- a setting that enables no one-sided driver.
 pub record NetsAdmit (board : RawBoard) (s : Enabling) : Type 0 where
   pub apart : (n : ℕ) (net : Net) (i j : ℕ) (p q : NetPin) (c d : Ctl)
       → slice_get board.nets n ≡ Some net → slice_get net.pins i ≡ Some p
@@ -307,7 +305,6 @@ nets_from_safe board s safe = record {
         up (λ (w : Some (By c) ≡ Some AlwaysOn). cc w)) (by_enables board net p c d s ∙ on)
         (always_enables board net r.item up s)
 
--- if a control passes the test of a single control, the setting of this control is safe, and conversely
 pub alone_safe : (board : RawBoard) (c : Ctl) → IsBoard board → is_safe_alone board c ≡ true → IsSafe board (just c)
 alone_safe board c rules h = safe_from_nets board (just c) rules (record {
   apart = λ n net i j p q a b en ei ej ne dp dq sa sb.
@@ -352,7 +349,6 @@ safe_alone board c safe =
         (nets.opened n net r.place r.item c en r.stands
         (by_true c (drive board net r.item) r.passes) (same_refl c)) hk))
 
--- if two controls pass the test of a pair, the setting of the two is safe, and conversely
 drives_at : (board : RawBoard) (c : Ctl) (net : Net) (i : ℕ) (p : NetPin)
     → slice_get net.pins i ≡ Some p → drive board net p ≡ Some (By c)
     → drives_net board c net ≡ true

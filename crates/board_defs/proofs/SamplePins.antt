@@ -1,4 +1,4 @@
--- Samples of the functions of entries, the pins of two devices and the nets that they guard. The expected values follow from the standard's
+-- Samples: functions of entries, pins of two devices, and the nets that these pins guard. The expected values follow from the standard's
 -- rules for the boundary register.
 use Rattle.std.proofs.Common.{◌≡◌, ℕ, ◌+◌, ◌==◌, Bool, true, false, List, [], ◌∷◌, map, Option, Some, None, refl}
 use Rattle.std.specs.Prelude.{codes}
@@ -23,7 +23,7 @@ use Rattle.board_defs.specs.Pins.{drive, switches, receives, is_dark, is_test_pi
 use Rattle.board_defs.proofs.BoardChecks.{board_of}
 use Rattle.board_defs.proofs.Samples.{port_bit, entry, control, by, device, rcv, od, pin, clock, foreign, net, board, c}
 
--- the functions of entries, in a list
+-- all functions of entries
 abbrev roles : List Role
 roles = Input ∷ Clock ∷ ObserveOnly ∷ Bidir ∷ Output2 ∷ Output3 ∷ ControlRole ∷ ControlR ∷ Internal ∷ []
 
@@ -48,7 +48,7 @@ controlling_roles = refl
 inner_roles : map is_inner roles ≡ false ∷ false ∷ false ∷ false ∷ false ∷ false ∷ true ∷ true ∷ true ∷ []
 inner_roles = refl
 
--- the modes of ports, in a list
+-- all modes of ports
 abbrev modes : List Mode
 modes = Inward ∷ Outward ∷ Both ∷ Buffer ∷ Linkage ∷ []
 
@@ -61,18 +61,16 @@ driving_modes = refl
 linkage_modes : map is_linkage modes ≡ false ∷ false ∷ false ∷ false ∷ true ∷ []
 linkage_modes = refl
 
--- X counts as 0
 symbol_bits : map bit_of (Zero ∷ One ∷ Any ∷ []) ≡ false ∷ true ∷ false ∷ []
 symbol_bits = refl
 
--- the indexes of (1 to 3) and of (3 downto 1)
 upward : range_indexes 1 3 ≡ 1 ∷ 2 ∷ 3 ∷ []
 upward = refl
 
 downward : range_indexes 3 1 ≡ 3 ∷ 2 ∷ 1 ∷ []
 downward = refl
 
--- the name of a pin of these devices: A, B and so on
+-- the name of the pin at port `b`: A, B and so on
 abbrev letter : ℕ → List ℕ
 letter b = (65 + b) ∷ []
 
@@ -112,11 +110,11 @@ kinds = board (mixed ∷ []) []
 kinds_rules : IsBoard kinds
 kinds_rules = board_of kinds refl
 
--- the properties of a pin of the first part: whether it is dark, whether it receives, and how its driver is enabled
+-- For a pin of the first part: whether it is dark, whether it receives, and how its driver is enabled.
 abbrev is : RawBoard → ℕ → Bool × Bool × Option Drive
 is b port = (is_dark b (leg 0 port), receives b (leg 0 port), drive b (net 0 None []) (leg 0 port))
 
--- a linkage pin is dark, and it is not a receiver, although an entry reads it
+-- a linkage pin is dark, and it is not a receiver, even if an entry reads it
 linkage : is kinds 0 ≡ (true, false, None)
 linkage = refl
 
@@ -231,7 +229,7 @@ undescribed_drives = refl
 undescribed_lengths : instruction_bits undescribed ∷ data_bits undescribed ∷ [] ≡ 6 ∷ 3 ∷ []
 undescribed_lengths = refl
 
--- whether a net is guarded that has pin `p` and a pin that does not guard it
+-- The net that has pin `p` and an input is guarded. The input alone does not guard it.
 abbrev guarded_by : NetPin → Bool
 guarded_by p = guarded kinds (net 0 None (leg 0 3 ∷ p ∷ []))
 
@@ -275,8 +273,8 @@ own_supply = refl
 controlled_pulled : switches kinds (net 0 (Some true) (leg 0 10 ∷ [])) (leg 0 10) ≡ false
 controlled_pulled = refl
 
--- Safe values. Cell 0 has only a reading entry. Cell 1 has a reading entry before the entry for its latch, and cell 2 has one after it.
--- Cell 3 is internal, cell 4 observes, cell 5 has X, and cell 7 has no entry.
+-- The safe values of a device. Cell 0 has only a reading entry. Cell 1 has a reading entry before the entry for its latch, and cell 2 has
+-- one after it. Cell 3 is internal, cell 4 only observes, the safe value of cell 5 is X, and cell 7 has no entry.
 abbrev kept : ℕ → Role → Option ℕ → Symbol → Cell
 kept num role bit safe = record { num = num; role = role; bit = bit; safe = safe; ctl = None }
 
@@ -290,8 +288,8 @@ safe_values : map (safe_value safes) (0 ∷ 1 ∷ 2 ∷ 3 ∷ 4 ∷ 5 ∷ 6 ∷ 
     ≡ Some One ∷ Some One ∷ Some Zero ∷ Some One ∷ Some Zero ∷ Some Any ∷ Some Any ∷ None ∷ []
 safe_values = refl
 
--- Disable values. Cell 15 disables its drivers at 1, and cell 8 controls none. The other two cells disable their own drivers, at 0 and at
--- 1.
+-- The disable values of four cells. Cell 15 disables its drivers at 1, and cell 8 controls no driver. The other two cells disable their
+-- own drivers, at 0 and at 1.
 disables : disable_of mixed 15 ∷ disable_of mixed 8 ∷ disable_of od0 0 ∷ disable_of od 0 ∷ []
     ≡ Some true ∷ None ∷ Some false ∷ Some true ∷ []
 disables = refl

@@ -1,4 +1,4 @@
--- Devices and boards, each of which breaks one rule.
+-- Sample devices and boards, each of which breaks one rule.
 use Rattle.std.proofs.Common.{◌≡◌, ◌≢◌, ◌⊎◌, ℕ, Bool, true, false, List, [], ◌∷◌, replicate, Option, Some, None, refl, inl, inr, arith}
 use Rattle.std.specs.Prelude.{codes}
 use Rattle.board_defs.specs.declared.device.Symbol.{Symbol}
@@ -17,8 +17,8 @@ use Rattle.board_defs.specs.DeviceRules.{HasTap, PortPinsDiffer, HasPlace, MayHa
 use Rattle.board_defs.specs.BoardRules.{IsPart, PinsDiffer, IsPlaced, AreInertAlike, IsBoard}
 use Rattle.board_defs.proofs.Samples.{port_bit, entry, control, by, device, rcv, ts, pin, net, board}
 
--- A device whose only faults can be its instruction codes. The samples break the rules on their lengths, on X, on codes of
--- only ones, and on the zeros of EXTEST in the old edition.
+-- A device that keeps every rule except perhaps those on instruction codes. The samples break the rules on the length of a code, on X, on
+-- codes of only ones, and on the zeros of EXTEST in the old edition.
 abbrev with_codes : List Symbol → List Symbol → RawDevice
 with_codes sample extest = record ts { sample = sample; extest = extest }
 
@@ -49,7 +49,7 @@ one_code rules = rules.codes_differ refl
 short_idcode : HasCodes (record ts { idcode = Some (replicate 31 One) }) → ⊥
 short_idcode rules = let short = rules.idcode_length in omega (arith, short)
 
--- port bits of a test access port, which must be one output and three or four inputs, all plain
+-- A port bit of a test access port. Such a port must have one output and three or four inputs, all plain.
 abbrev tap : ℕ → Mode → PortBit
 tap port mode = port_bit port None mode (Some (codes "P")) true
 
@@ -75,7 +75,8 @@ five_inputs rules = neither 5 (λ e. omega (arith, e)) (λ e. omega (arith, e)) 
 vector_tap : HasTap (record tap_in { index = Some 1 } ∷ []) → ⊥
 vector_tap rules = let index : Some 1 ≡ None = (rules.plain 0 tap_in (omega arith) refl).0 in cc index
 
--- a bit of port 4; the bits of a port must have one mode, and pins for all of them or for none, and no two port bits may have the same pin
+-- A bit of port 4. The bits of a port must have one mode, and all of them must have pins or none may. No two port bits may have the same
+-- pin.
 abbrev of_port : ℕ → Mode → Option (List ℕ) → PortBit
 of_port index mode pin = port_bit 4 (Some index) mode pin false
 
@@ -90,7 +91,7 @@ pin_twice : PortPinsDiffer
     (of_port 1 Inward (Some (codes "1")) ∷ of_port 2 Inward (Some (codes "1")) ∷ []) [] 1) → ⊥
 pin_twice rules = let same = rules 4 5 _ _ _ refl refl refl refl in omega (arith, same)
 
--- an entry has a port bit if and only if its function has a port, and the port bit must exist
+-- An entry with the function CONTROL, CONTROLR or INTERNAL has no port bit. Any other entry has a port bit that exists.
 input_without_place : HasPlace 6 Input None → ⊥
 input_without_place inner = let z : false ≡ true = inner in cc z
 
@@ -103,7 +104,7 @@ internal_with_place place = let z : true ≡ false = place.0 in cc z
 place_outside : HasPlace 6 Input (Some 6) → ⊥
 place_outside place = let below = place.1 in omega (arith, below)
 
--- an OUTPUT3 or BIDIR entry has a control, an OUTPUT2 entry may have one, and no other entry has one
+-- an OUTPUT3 or BIDIR entry must have a control, an OUTPUT2 entry may have one, and no other entry may have one
 output_without : MayHaveControl Output3 None → ⊥
 output_without given = let z : false ≡ true = given in cc z
 
@@ -132,7 +133,7 @@ of_cells mode cells = device (codes "Q" ∷ []) (of_port 1 mode (Some (codes "1"
 abbrev disabled : ℕ → Bool → Option Control
 disabled cell value = Some (record { cell = cell; disable = value })
 
--- a control is the entry's own cell, or a cell with a CONTROL or CONTROLR entry
+-- a control must be the entry's own cell, or a cell with a CONTROL or CONTROLR entry
 no_control_cell : ControlsStand (of_cells Both (entry 0 Output3 4 (by 1) ∷ entry 1 Input 5 None ∷ [])) → ⊥
 no_control_cell rules = let z : false ≡ true = rules 0 _ _ refl refl in cc z
 
@@ -151,7 +152,7 @@ two_writings rules = let same = rules 0 1 _ _ refl refl refl refl refl in omega 
 two_drivers : OneDriver (of_cells Outward (entry 0 Output2 4 None ∷ entry 1 Output2 4 None ∷ [])) → ⊥
 two_drivers rules = let same = rules 0 1 4 _ _ refl refl refl refl in omega (arith, same)
 
--- no entry is on a TAP port, and no driving entry is on an input or a linkage port
+-- no entry may be on a TAP port, and no driving entry on an input or a linkage port
 entry_on_tap : EntriesFitPorts (of_cells Inward (entry 0 Input 0 None ∷ [])) → ⊥
 entry_on_tap rules = let z : true ≡ false = (rules 0 0 _ _ refl refl refl).0 in cc z
 
@@ -161,7 +162,7 @@ driver_on_input rules = let z : false ≡ true = (rules 0 4 _ _ refl refl refl).
 driver_on_linkage : EntriesFitPorts (of_cells Linkage (entry 0 Output2 4 None ∷ [])) → ⊥
 driver_on_linkage rules = let z : false ≡ true = (rules 0 4 _ _ refl refl refl).1 refl in cc z
 
--- the limits on the lengths of registers and on cell numbers
+-- limits on the lengths of registers and on cell numbers
 short_instructions : IsDevice (record ts { ir = 1 }) → ⊥
 short_instructions rules = let least = rules.ir_least in omega (arith, least)
 
@@ -174,14 +175,14 @@ no_boundary rules = let least = rules.boundary_least in omega (arith, least)
 cell_outside : IsDevice (record ts { boundary = 1 }) → ⊥
 cell_outside rules = let below = rules.cells_below 1 (control 1) (omega arith) in omega (arith, below)
 
--- the instruction register of a part without a description has 2 to 255 bits
+-- the instruction register of a part without a description must have 2 to 255 bits
 short_part : IsPart (Bypass 1) → ⊥
 short_part rules = let least = rules.0 in omega (arith, least)
 
 long_part : IsPart (Bypass 256) → ⊥
 long_part rules = let most = rules.1 in omega (arith, most)
 
--- A board has at least one part, and no two parts have the same name. No pin occurs twice, in two nets or in one net.
+-- A board must have at least one part, and no two parts with the same name. No pin may occur twice, in two nets or in one.
 no_chain : IsBoard (board [] []) → ⊥
 no_chain rules = let some = rules.chain_some in omega (arith, some)
 
@@ -209,7 +210,7 @@ twice_in_net rules =
     (record { on_board = refl; in_net = refl }) refl refl).1 in
     omega (arith, same)
 
--- a pin of a described part has a place in the chain, and no pin of a part in the chain is inert
+-- a pin of a described part must have a place in the chain, and no pin of a part in the chain may be inert
 without_place : IsPlaced (pair []) (record (pin 1 0) { at = None }) None → ⊥
 without_place rules = let none = rules 1 (record { name = codes "U2"; kind = Bypass 2 }) (omega arith) refl in cc none
 

@@ -21,14 +21,15 @@ use Rattle.board_defs.proofs.BoardChecks.{board_of}
 use Rattle.board_defs.proofs.Samples.{port_bit, entry, device, rcv, ts, bi, two, od, four, pin, clock, foreign, net, board, bus, fours, c, at, reasons, pairs}
 use Rattle.board_defs.proofs.SamplePins.{mixed, leg, inert}
 
--- A board with one net of a three-state driver, a receiver and further pins. The net may be a supply. Part 2 has a pin of each kind.
+-- A board with one net, which has a three-state driver, a receiver and the pins `more`. The net carries a supply if `supply` is true.
+-- Part 2 has a pin of each kind.
 abbrev meeting : Bool → List NetPin → RawBoard
 meeting supply more = board (ts ∷ rcv ∷ mixed ∷ []) (record (net 0 None (pin 0 0 ∷ pin 1 0 ∷ more)) { supply = supply } ∷ [])
 
 abbrev reason : Bool → List NetPin → List (Option Reason)
 reason supply more = reasons (meeting supply more)
 
--- the control of the driver is safe alone, which means that the net is not guarded
+-- The control of the driver is safe alone. This is so if and only if the net is not guarded.
 abbrev usable : Bool → List NetPin → Bool
 usable supply more = is_safe_alone (meeting supply more) (c 0 1)
 
@@ -75,7 +76,7 @@ linkage_net = refl
 foreign_usable : usable false (foreign (codes "RAM") ∷ []) ≡ false
 foreign_usable = refl
 
--- SUPPLY comes before TESTPORT and DARK, and TESTPORT comes before DARK
+-- if several reasons apply, SUPPLY comes before TESTPORT and DARK, and TESTPORT comes before DARK
 supply_first : reason true (clock 2 ∷ foreign (codes "RAM") ∷ []) ≡ Some Supply ∷ []
 supply_first = refl
 
@@ -87,7 +88,7 @@ test_before_dark = refl
 abbrev alone : List NetPin → List (Option Reason)
 alone pins = reasons (board (ts ∷ bi ∷ rcv ∷ mixed ∷ od ∷ []) (net 0 None pins ∷ []))
 
--- DARK comes before NODRIVER
+-- if both reasons apply, DARK comes before NODRIVER
 dark_before_none : alone (pin 2 0 ∷ foreign (codes "RAM") ∷ []) ≡ Some Dark ∷ []
 dark_before_none = refl
 
@@ -98,8 +99,8 @@ no_driver = refl
 one_sided : alone (pin 4 0 ∷ pin 2 0 ∷ []) ≡ Some Blocked ∷ []
 one_sided = refl
 
--- Nets without a receiver on another pin: with no other pin, with an OBSERVE_ONLY pin, with an output that an entry reads, and with a
--- driver that receives itself.
+-- Nets on which no other pin receives: the other pin is missing, is OBSERVE_ONLY, or is an output that an entry reads, or the only
+-- receiver is the driver itself.
 no_receiver : alone (pin 0 0 ∷ []) ≡ Some NoReceiver ∷ []
 no_receiver = refl
 
@@ -119,7 +120,7 @@ clock_receives = refl
 both_receives : alone (pin 0 0 ∷ leg 3 12 ∷ []) ≡ None ∷ []
 both_receives = refl
 
--- a board with a control that enables two drivers of one net, which is therefore blocked
+-- a board on which one control enables two drivers of net 0, so net 0 is blocked
 abbrev twins : RawBoard
 twins = board (two ∷ rcv ∷ []) (net 0 None (pin 0 0 ∷ pin 0 1 ∷ pin 1 0 ∷ []) ∷ net 1 None (pin 0 2 ∷ pin 1 1 ∷ []) ∷ [])
 
@@ -132,7 +133,7 @@ twins_safe = refl
 twins_rules : IsBoard twins
 twins_rules = board_of twins refl
 
--- on a net with an always-on driver and a controlled one, the first is tested and the second is not
+-- On a net with an always-on driver and a controlled one, the always-on driver is tested and the controlled one is not.
 abbrev steady : RawBoard
 steady = board (mixed ∷ ts ∷ rcv ∷ []) (net 0 None (leg 0 9 ∷ pin 1 0 ∷ pin 2 0 ∷ []) ∷ [])
 
@@ -152,7 +153,7 @@ steady_rules = board_of steady refl
 steady_passes : passes_of steady ≡ [] ∷ []
 steady_passes = refl
 
--- a board with an always-on driver on a dark net, which keeps the rules; the net is not covered
+-- A board with an always-on driver on a dark net. It keeps the rules of boards, and the net is not covered.
 abbrev dark_steady : RawBoard
 dark_steady = board (mixed ∷ rcv ∷ []) (net 0 None (leg 0 9 ∷ pin 1 0 ∷ foreign (codes "RAM") ∷ []) ∷ [])
 
@@ -162,19 +163,20 @@ dark_steady_rules = board_of dark_steady refl
 dark_steady_reasons : reasons dark_steady ≡ Some Dark ∷ []
 dark_steady_reasons = refl
 
--- A one-sided driver, which may be on a net or not. Its cell is in no safe setting. Without a pin there is no such driver.
+-- a device whose port bit has a driving entry but no pin, and therefore no driver
 abbrev unpinned : RawDevice
 unpinned =
     device (codes "Q" ∷ []) (port_bit 4 None Outward None false ∷ [])
     (entry 0 Output2 4 (Some (record { cell = 0; disable = true })) ∷ []) 1
 
+-- Two one-sided drivers, one of them on a net. No safe setting has the cell of a one-sided driver as a control.
 abbrev loose : RawBoard
 loose = board (od ∷ unpinned ∷ ts ∷ od ∷ rcv ∷ []) (net 0 None (pin 3 0 ∷ pin 4 0 ∷ []) ∷ [])
 
 loose_safe : map (is_safe_alone loose) (c 0 0 ∷ c 1 0 ∷ c 2 1 ∷ c 3 0 ∷ []) ≡ false ∷ true ∷ true ∷ false ∷ []
 loose_safe = refl
 
--- a board on which two drivers of a bus are not together; each is together with itself and with the driver of another net
+-- A board with a bus whose two drivers are not together. Each of them is together with itself and with the driver of the other net.
 abbrev split : RawBoard
 split = board (ts ∷ ts ∷ ts ∷ rcv ∷ []) (net 0 None (pin 0 0 ∷ pin 3 0 ∷ []) ∷ net 1 None (pin 1 0 ∷ pin 2 0 ∷ pin 3 1 ∷ []) ∷ [])
 
@@ -190,12 +192,12 @@ split_pairs = refl
 split_rules : IsBoard split
 split_rules = board_of split refl
 
--- In the first pass, the first walk adds the lower of the bus drivers. In the second pass, the first walk adds none, and the second
--- walk adds a driver that the first pass enables too.
+-- In the first pass, the first walk adds the lower of the two bus drivers. In the second pass, the first walk adds no control, and the
+-- second walk adds a control that the first pass has too.
 split_passes : passes_of split ≡ (c 0 1 ∷ c 1 1 ∷ []) ∷ (c 0 1 ∷ c 2 1 ∷ []) ∷ []
 split_passes = refl
 
--- the board of four pairs of drivers with one more driver, which is on a net of its own and which the second walks add
+-- The board of the device `four`, with one more driver on a net of its own. The second walks add this driver's control.
 abbrev more_fours : RawBoard
 more_fours = board (four ∷ rcv ∷ rcv ∷ rcv ∷ ts ∷ []) (fours.nets ++ net 5 None (pin 4 0 ∷ pin 3 1 ∷ []) ∷ [])
 
@@ -204,7 +206,7 @@ more_fours_passes : passes_of more_fours
     ∷ []
 more_fours_passes = refl
 
--- a net with two pins; a driver is tested only if another pin receives, and a receiver only if another pin drives
+-- A net with two pins. A driver is tested only if another pin receives, and a receiver only if another pin drives.
 abbrev duo : Net
 duo = net 0 None (pin 0 0 ∷ pin 1 0 ∷ [])
 
@@ -226,7 +228,6 @@ both_drivers = refl
 both_receivers : map (is_tested_receiver bidirectional duo) (0 ∷ 1 ∷ []) ≡ true ∷ true ∷ []
 both_receivers = refl
 
--- control order: by the part, then by the cell
 control_order : map (precedes (c 1 2)) (c 1 3 ∷ c 2 0 ∷ c 1 2 ∷ c 1 1 ∷ c 0 9 ∷ []) ≡ true ∷ true ∷ false ∷ false ∷ false ∷ []
 control_order = refl
 
@@ -255,8 +256,8 @@ bus_faults : singles bus ≡
     ∷ OpenPin (at 0 2) true ∷ []
 bus_faults = refl
 
--- boards that break the rules on always-on drivers: the driver is on a supply net or on a net with a TAP or compliance pin,
--- or two of them are on one net
+-- Boards that break the rules on always-on drivers: the driver is on a supply net or on a net with a TAP or compliance pin, or one net
+-- has two such drivers.
 abbrev steady_net : Bool → List NetPin → Net
 steady_net supply more = record (net 0 None (leg 0 9 ∷ more)) { supply = supply }
 

@@ -1,4 +1,4 @@
--- Small boards, and values of the definitions for them.
+-- Small sample devices and boards, and what the definitions compute for them.
 use Rattle.std.proofs.Common.{◌≡◌, ℕ, ◌+◌, Bool, true, false, List, [], ◌∷◌, ◌++◌, map, Option, Some, None, refl}
 use Rattle.std.specs.Prelude.{codes}
 use Rattle.board_defs.specs.declared.device.Symbol.TheVariants.{Zero, One, Any}
@@ -29,7 +29,7 @@ use Rattle.board_defs.specs.Passes.{passes_of}
 use Rattle.board_defs.specs.Faults.{tested_pins, paired_nets, singles}
 use Rattle.board_defs.proofs.BoardChecks.{board_of}
 
--- a port bit of a device; the four port bits of the test access port (`taps`) come first
+-- A port bit of a device. The four port bits of the test access port (`taps`) come before it.
 abbrev pub port_bit : ℕ → Option ℕ → Mode → Option (List ℕ) → Bool → PortBit
 port_bit port index mode pin tap = record { port = port; index = index; mode = mode; pin = pin; tap = tap; compliance = false }
 
@@ -48,7 +48,7 @@ vector port mode i (pin ∷ pins) = port_bit port (Some i) mode (Some pin) false
 abbrev pub entry : ℕ → Role → ℕ → Option Control → Cell
 entry num role bit ctl = record { num = num; role = role; bit = Some bit; safe = Any; ctl = ctl }
 
--- the entry of a control cell that disables drivers at 1, and the control of such a driver
+-- the entry of a control cell
 abbrev pub control : ℕ → Cell
 control num = record { num = num; role = ControlRole; bit = None; safe = One; ctl = None }
 
@@ -70,8 +70,8 @@ device ports bits cells boundary = record {
   cells = cells;
 }
 
--- devices: with receivers on pins 1 and 2; with one three-state driver; with one bidirectional pin; with two pairs of drivers;
--- with a driver that its own cell enables
+-- Sample devices: `rcv` has receivers on pins 1 and 2, `ts` has one three-state driver, `bi` has one bidirectional pin, `two` has two
+-- controls that each enable two drivers, and `od` has a driver that its own cell enables.
 abbrev pub rcv : RawDevice
 rcv = device (codes "Q" ∷ []) (vector 4 Inward 1 (codes "1" ∷ codes "2" ∷ [])) (entry 0 Input 4 None ∷ entry 1 Input 5 None ∷ []) 2
 
@@ -89,7 +89,7 @@ two = device (codes "Q" ∷ []) (vector 4 Outward 1 (codes "1" ∷ codes "2" ∷
 abbrev pub od : RawDevice
 od = device (codes "Q" ∷ []) (port_bit 4 None Outward (Some (codes "1")) false ∷ []) (entry 0 Output2 4 (by 0) ∷ []) 1
 
--- a two-bit three-state buffer: OE_N, A(1), A(0), Y(1), Y(0), GND and VCC; cell 4 reads OE_N and controls Y
+-- A two-bit three-state buffer with the ports OE_N, A(1), A(0), Y(1), Y(0), GND and VCC. Cell 4 reads OE_N and controls Y.
 abbrev buf2 : RawDevice
 buf2 = device (codes "OE_N" ∷ codes "A" ∷ codes "Y" ∷ codes "GND" ∷ codes "VCC" ∷ [])
     (port_bit 4 None Inward (Some (codes "1")) false ∷ port_bit 5 (Some 1) Inward (Some (codes "2"))
@@ -99,14 +99,14 @@ buf2 = device (codes "OE_N" ∷ codes "A" ∷ codes "Y" ∷ codes "GND" ∷ code
     (entry 4 Input 4 None ∷ control 4 ∷ entry 3 Input 5 None ∷ entry 2 Input 6 None
     ∷ entry 1 Output3 7 (by 4) ∷ entry 0 Output3 8 (by 4) ∷ []) 5
 
--- Part `k` is named U followed by `k + 1`. Its pins from 1 on come after those of the test access port.
+-- The name of part `k`: U followed by `k + 1`.
 abbrev pub part_name : ℕ → List ℕ
 part_name k = 85 ∷ (49 + k) ∷ []
 
 abbrev pub pin : ℕ → ℕ → NetPin
 pin k b = record { part = part_name k; pin = (49 + b) ∷ []; at = Some (record { part = k; bit = b + 4 }); inert = false }
 
--- the TCK pin of a part, and pins of parts outside the chain
+-- the TCK pin of part `k`
 abbrev pub clock : ℕ → NetPin
 clock k = record { part = part_name k; pin = codes "T4"; at = Some (record { part = k; bit = 2 }); inert = false }
 
@@ -135,7 +135,7 @@ reasons b = map (reason_of b) b.nets
 abbrev pub pairs : RawBoard → List (ℕ × ℕ)
 pairs b = map (λ pair. (pair.0.0, pair.1.0)) (paired_nets b)
 
--- two three-state drivers and a receiver on one net, which need one pass for each driver
+-- Two three-state drivers and a receiver on one net. Each driver needs a pass of its own.
 abbrev pub bus : RawBoard
 bus = board (ts ∷ ts ∷ rcv ∷ []) (net 0 None (pin 0 0 ∷ pin 1 0 ∷ pin 2 0 ∷ []) ∷ [])
 
@@ -151,8 +151,8 @@ bus_rules = board_of bus refl
 bus_passes : passes_of bus ≡ (c 0 1 ∷ []) ∷ (c 1 1 ∷ []) ∷ []
 bus_passes = refl
 
--- A board with a net that has drivers of both controls. The net is paired with each of the other two nets, and those two
--- are not paired with each other.
+-- A board on which net 1 has drivers of both controls. Net 1 is paired with each of the other two nets, and those two are not paired with
+-- each other.
 abbrev pub crossing : RawBoard
 crossing =
     board (two ∷ rcv ∷ rcv ∷ [])
@@ -171,8 +171,8 @@ crossing_rules = board_of crossing refl
 crossing_passes : passes_of crossing ≡ (c 0 4 ∷ []) ∷ (c 0 5 ∷ []) ∷ []
 crossing_passes = refl
 
--- a net of a bidirectional pin and a driver: the bidirectional pin is tested only as a receiver, since no other pin of the net
--- receives
+-- A net with a bidirectional pin and a driver. The bidirectional pin is tested only as a receiver, since no other pin of the net
+-- receives.
 abbrev pub shared : RawBoard
 shared = board (bi ∷ ts ∷ []) (net 0 None (pin 0 0 ∷ pin 1 0 ∷ []) ∷ [])
 
@@ -188,7 +188,7 @@ shared_rules = board_of shared refl
 shared_passes : passes_of shared ≡ (c 1 1 ∷ []) ∷ []
 shared_passes = refl
 
--- two buffers, a supply with a foreign pin, and the clock of the test access port
+-- a board with two buffers, a supply net that has a foreign pin, and a net for the clock of the test access port
 abbrev buffers : RawBoard
 buffers = board (buf2 ∷ buf2 ∷ []) (
     net 0 None (pin 0 4 ∷ pin 1 2 ∷ []) ∷ net 1 None (pin 0 3 ∷ pin 1 1 ∷ []) ∷ net 2 None (pin 0 0 ∷ pin 1 0 ∷ [])
@@ -207,7 +207,8 @@ buffers_passes = refl
 buffers_bits : data_bits buffers ≡ 10
 buffers_bits = refl
 
--- a net with one pin more; a foreign pin makes the net dark, and a pin of an inert part does not
+-- A net with a driver, a receiver and pin `p`. A foreign pin, of a part outside the chain, makes the net dark. A pin of an inert part
+-- does not.
 abbrev beside : NetPin → RawBoard
 beside p = board (ts ∷ rcv ∷ []) (net 0 None (pin 0 0 ∷ pin 1 0 ∷ p ∷ []) ∷ [])
 
@@ -220,8 +221,8 @@ dark = refl
 not_dark : reasons (beside (record { part = codes "RAM"; pin = codes "7"; at = None; inert = true })) ≡ None ∷ []
 not_dark = refl
 
--- a driver that its own cell enables: if the net is pulled to its disable value, it switches; otherwise it is one-sided and
--- its net is blocked
+-- A net with a driver that its own cell enables. If the net is pulled to the cell's disable value, the driver is a switching driver.
+-- Otherwise it is one-sided and blocks its net.
 abbrev pulled : Option Bool → Net
 pulled pull = net 0 pull (pin 0 0 ∷ pin 1 0 ∷ [])
 
@@ -260,8 +261,7 @@ switching_faults : singles (pull (Some true))
     ∷ OpenPin (at 0 1) false ∷ OpenPin (at 0 1) true ∷ []
 switching_faults = refl
 
--- a device in which each control enables two drivers; on its board, the third pass is for two nets that neither of the
--- first two passes observes together
+-- a device with four controls, each of which enables two drivers
 abbrev pub four : RawDevice
 four =
     device (codes "Q" ∷ [])
@@ -272,6 +272,7 @@ four =
     Output3 7 (by 9) ∷ entry 4 Output3 8 (by 10) ∷ entry 5 Output3 9 (by 10)
     ∷ entry 6 Output3 10 (by 11) ∷ entry 7 Output3 11 (by 11) ∷ control 8 ∷ control 9 ∷ control 10 ∷ control 11 ∷ []) 12
 
+-- a board whose third pass is for two nets that neither of the first two passes observes together
 abbrev pub fours : RawBoard
 fours = board (four ∷ rcv ∷ rcv ∷ rcv ∷ []) (
     net 0 None (pin 0 0 ∷ pin 0 4 ∷ pin 1 0 ∷ []) ∷ net 1 None (pin 0 1 ∷ pin 0 6 ∷ pin 1 1 ∷ [])

@@ -20,7 +20,6 @@ use Rattle.board_defs.proofs.Members.{Has, has_contains, contains_has, has_left,
 use Rattle.board_defs.proofs.Ordered.{InOrder, PairPrecedes, order_pairs, order_append, order_flat_map, order_filter, order_map, order_range, order_enumerate, order_pairs_within}
 use Rattle.board_defs.proofs.Covered.{covered_is, covered_true, paired_is, paired_true, tested_driver_is, tested_driver_true, tested_receiver_is, tested_receiver_true, tested_below}
 
--- a numbered net in the list is the net with that number
 numbered_at : (board : RawBoard) (m : Numbered) → Has (numbered_nets board) m → slice_get board.nets m.0 ≡ Some m.1
 numbered_at board m h =
     let r = enumerate_has 0 board.nets m.0 m.1 h in
@@ -33,7 +32,6 @@ numbered_has board n net e =
     let P : ℕ → Type 0 = λ k. Has (numbered_nets board) (k, net) in
     subst P at (has_enumerate 0 board.nets n net e)
 
--- the place of a net in the list of numbered nets is its number
 numbered_place : (n : ℕ) (nets : List Net) (k : ℕ) (m : Numbered) → slice_get (enumerate_from n nets) k ≡ Some m → m.0 ≡ n + k
 numbered_place n [] k m e = cc e
 numbered_place n (net ∷ nets) zero m e =
@@ -54,7 +52,6 @@ at_place n (v ∷ nets) (suc k) net e =
     let at : n + 1 + k ≡ n + suc k = omega arith in
     at_place (n + 1) nets k net e ∙ ap (λ m. let q : Numbered = (m, net) in Some q) at
 
--- the list of stuck faults has exactly those of covered nets
 stuck_is : (board : RawBoard) → IsBoard board → (s : Single)
     → Has (flat_map (λ net. stuck_faults net.0) (covered_nets board)) s → IsSingle board s
 stuck_is board rules s h = by_value r.2
@@ -85,7 +82,6 @@ stuck_has board rules n value (setting, safe, (net, en, o)) =
     by_value false = inl refl
     by_value true = inr (inl refl)
 
--- the list of open faults has exactly those of tested pins
 open_is : (board : RawBoard) → IsBoard board → (s : Single) → Has (flat_map open_faults (tested_pins board)) s → IsSingle board s
 open_is board rules s h = by_value r.2
   where
@@ -116,7 +112,7 @@ open_is board rules s h = by_value r.2
     by_value (inr (inl e)) = let P : Single → Type 0 = λ v. IsSingle board v in subst P e tested
     by_value (inr (inr k)) = absurd k
 
--- the net and the place of a tested pin
+-- the pin is tested: its net, and the proof that the net has a pin at this place
 record TestedAt (board : RawBoard) (pin : PinRef) : Type 0 where
   net : Net
   on_board : slice_get board.nets pin.net ≡ Some net
@@ -166,7 +162,6 @@ open_has board rules pin value h =
     by_value false = inl refl
     by_value true = inr (inl refl)
 
--- the list of shorts has exactly those of paired nets
 short_is : (board : RawBoard) → IsBoard board → (s : Single)
     → Has (flat_map (λ pair. short_faults pair.0.0 pair.1.0) (paired_nets board)) s
     → IsSingle board s
@@ -223,7 +218,6 @@ short_has board rules a b kind less (ne, (s, safe, ((first, ea, oa), (second, eb
     by_kind First = inr (inr (inl refl))
     by_kind Second = inr (inr (inr (inl refl)))
 
--- a fault is in the list if and only if it is a single fault
 pub single_is : (board : RawBoard) → IsBoard board → (s : Single) → Contains (singles board) s → IsSingle board s
 single_is board rules s h = by_part (has_append (stuck ++ opens) shorts s (contains_has (singles board) s h))
   where
@@ -265,7 +259,6 @@ single_listed board rules s h = has_contains (singles board) s (by_case s h)
         (has_right stuck opens (OpenPin pin value) (open_has board rules pin value h))
     by_case (Short a b kind) h = has_right (stuck ++ opens) shorts (Short a b kind) (short_has board rules a b kind h.0 h.1)
 
--- each fault in one of the three lists has the form of that list
 stuck_form : (n : ℕ) (s : Single) → Has (stuck_faults n) s → (v : Bool) × (StuckNet n v ≡ s)
 stuck_form n s (inl e) = (false, e)
 stuck_form n s (inr (inl e)) = (true, e)
@@ -293,7 +286,6 @@ precedes_as a b s t e f h =
 abbrev Lower : Numbered → Numbered → Type 0
 Lower p q = p.0 < q.0
 
--- each of the three lists is in order
 stuck_order : (board : RawBoard) → InOrder SinglePrecedes (flat_map (λ net. stuck_faults net.0) (covered_nets board))
 stuck_order board =
     order_flat_map (λ (p q : Numbered). p.0 < q.0) SinglePrecedes (λ net. stuck_faults net.0) (covered_nets board)

@@ -1,4 +1,4 @@
--- The rules of boards: those that the chain and the nets of every board keep.
+-- The rules that every board keeps: rules on its parts, its nets and their pins.
 use Rattle.std.specs.Prelude.{◌≡◌, ◌≢◌, ℕ, ◌≤◌, true, false, length, Option, Some, None, slice_get, sum_by, All, AllPairs}
 use Rattle.std.specs.List.{list_any}
 use Rattle.board_defs.specs.declared.device.PortBit.{PortBit}
@@ -15,24 +15,24 @@ use Rattle.board_defs.specs.Limits.{most_parts, most_bits, most_nets, most_pins,
 use Rattle.board_defs.specs.DeviceRules.{IsDevice}
 use Rattle.board_defs.specs.Pins.{described, is_test_pin, drive, data_bits}
 
--- a described part keeps the rules of a device; any other part has an instruction length from 2 to 255
+-- A described part keeps the rules of devices. The instruction register of any other part has 2 to 255 bits.
 abbrev pub IsPart : PartKind → Type 0
 IsPart (Described device) = IsDevice device
 IsPart (Bypass n) = IsInstructionLength n
 
--- net number `n` is `net`, and `pin` is at `place` of that net
+-- net number `n` of the board is `net`, and the pin at place `place` of that net is `pin`
 pub record Stands (board : RawBoard) (n : ℕ) (net : Net) (place : ℕ) (pin : NetPin) : Type 0 where
   pub on_board : slice_get board.nets n ≡ Some net
   pub in_net : slice_get net.pins place ≡ Some pin
 
--- no pin occurs twice in the nets
+-- no two pins of the nets have the same part and the same pin name
 abbrev pub PinsDiffer : RawBoard → Type 0
 PinsDiffer board =
     (m n i j : ℕ) (first second : Net) (p q : NetPin) → Stands board m first i p
     → Stands board n second j q → p.part ≡ q.part → p.pin ≡ q.pin → (m ≡ n) × (i ≡ j)
 
--- `at` is the place of the pin in the chain: `at.part` is the part with the name of the pin's part, and `at.bit` is the
--- port bit of that part that has this pin
+-- `at` is the place of the pin in the chain: part number `at.part` has the name of the pin's part, and port bit number `at.bit` of that
+-- part's device has this pin
 pub record IsPlacedAt (board : RawBoard) (pin : NetPin) (at : PinAt) : Type 0 where
   pub part : Part
   pub in_chain : slice_get board.chain at.part ≡ Some part
@@ -43,18 +43,20 @@ pub record IsPlacedAt (board : RawBoard) (pin : NetPin) (at : PinAt) : Type 0 wh
   pub in_device : slice_get device.bits at.bit ≡ Some bit
   pub has_pin : bit.pin ≡ Some pin.pin
 
--- A pin with a place is at that place. If a pin has no place, no described part has the name of the pin's part.
+-- If the pin has a place in the chain, the place is right. If it has none, no described part has the name of the pin's part.
 abbrev pub IsPlaced : RawBoard → NetPin → Option PinAt → Type 0
 IsPlaced board pin None = All (λ part. part.name ≡ pin.part → described part.kind ≡ None) board.chain
 IsPlaced board pin (Some at) = IsPlacedAt board pin at
 
--- No pin of a part in the chain is inert. Of the pins of one part, all are inert or none is.
+-- No pin of a part in the chain is inert. Of the pins of one part, all are inert or none is. A pin is inert if its part drives no net and
+-- connects no two nets.
 pub record AreInertAlike (board : RawBoard) : Type 0 where
   pub in_chain : All (λ net. All (λ pin. pin.inert ≡ true → All (λ part. part.name ≢ pin.part) board.chain) net.pins) board.nets
   pub agree : (m n i j : ℕ) (first second : Net) (p q : NetPin) → Stands board m first i p
       → Stands board n second j q → p.part ≡ q.part → p.inert ≡ q.inert
 
--- a net with a driver that is always on is not a supply net, and has no pin of a test access port or of compliance patterns
+-- a net with a driver that is always on is not a supply net, and has no pin of a test access port and no pin that compliance patterns
+-- name
 abbrev pub NoGuardedDriver : RawBoard → Type 0
 NoGuardedDriver board =
     (n place : ℕ) (net : Net) (pin : NetPin) → Stands board n net place pin
@@ -68,7 +70,7 @@ OneAlwaysOn board =
     → slice_get net.pins i ≡ Some p → slice_get net.pins j ≡ Some q → i ≢ j
     → drive board net p ≡ Some AlwaysOn → drive board net q ≡ Some AlwaysOn → ⊥
 
--- the rules of boards
+-- all rules of boards
 pub record IsBoard (board : RawBoard) : Type 0 where
   pub chain_some : 1 ≤ length board.chain
   pub chain_most : length board.chain ≤ most_parts

@@ -1,4 +1,5 @@
--- The terms of coverage. Most of them say that some safe setting does something.
+-- The terms of coverage: covered and paired nets, tested pins, useful controls, and the reasons why a net is not covered. Most of the
+-- terms ask for some safe setting.
 use Rattle.std.specs.Prelude.{◌≡◌, ◌≢◌, ◌<◌, ℕ, true, false, Some, None, slice_get}
 use Rattle.std.specs.List.{list_any}
 use Rattle.board_defs.specs.declared.board.NetPin.{NetPin}
@@ -23,7 +24,7 @@ TestsReceiver board setting n place =
     × (slice_get net.pins place ≡ Some pin) × (receives board pin ≡ true) × (driver ≢ place)
     × ObservesBy board setting net driver
 
--- `P` is true of some safe setting
+-- some safe setting has property `P`
 abbrev pub SomeSafe : RawBoard → (Enabling → Type 0) → Type 0
 SomeSafe board P = (setting : Enabling) × IsSafe board setting × P setting
 
@@ -64,7 +65,7 @@ IsBlocked board n net =
     (setting : Enabling) (place : ℕ) (pin : NetPin) → IsSafe board setting
     → Stands board n net place pin → enables board setting pin ≡ false
 
--- the reason applies to the net
+-- The reason applies to the net. `NoReceiver` is the last reason, and it applies to every net.
 abbrev pub ReasonHolds : RawBoard → ℕ → Net → Reason → Type 0
 ReasonHolds board n net Supply = net.supply ≡ true
 ReasonHolds board n net TestPort = list_any (is_test_pin board) net.pins ≡ true
@@ -73,7 +74,7 @@ ReasonHolds board n net NoDriver = HasNoDriver board n net
 ReasonHolds board n net Blocked = IsBlocked board n net
 ReasonHolds board n net NoReceiver = Unit {0}
 
--- the order in which the reasons are tried
+-- the rank of a reason in the order in which the reasons are tried
 abbrev pub reason_rank : Reason → ℕ
 reason_rank Supply = 0
 reason_rank TestPort = 1

@@ -1,5 +1,5 @@
--- Tests that compute the terms of settings and coverage. They do not list settings: they look only at single controls and at
--- pairs of controls. A law says that these tests decide the terms.
+-- Boolean tests for the terms that `Settings.antt` and `Coverage.antt` define. They do not list settings: they look only at single
+-- controls and at pairs of controls. A law in `Laws.antt` says that the tests agree with the terms.
 use Rattle.std.specs.Prelude.{ℕ, zero, suc, ◌==◌, Bool, true, false, not, ◌&&◌, ◌||◌, List, [], ◌∷◌, length, Option, Some, None, slice_get, is_some, option_and_then, cond}
 use Rattle.std.specs.List.{list_any, list_all}
 use Rattle.board_defs.specs.declared.device.Control.{Control}
@@ -17,30 +17,30 @@ use Rattle.board_defs.specs.declared.coverage.Reason.TheVariants.{Supply, TestPo
 use Rattle.board_defs.specs.Pins.{drive, receives, receives_of, guarded, device_at, entry_at, is_pinned, is_test_pin, is_dark, lets_switch}
 use Rattle.board_defs.specs.Settings.{same_ctl}
 
--- some number below n passes
+-- `p` is true of some number below `n`
 abbrev pub any_below : ℕ → (ℕ → Bool) → Bool
 any_below zero p = false
 any_below (suc n) p = p n || any_below n p
 
--- at most one item passes
+-- `p` is true of at most one item of the list
 abbrev pub at_most_one : {X : Type 0} → (X → Bool) → List X → Bool
 at_most_one p [] = true
 at_most_one p (x ∷ xs) = cond (p x) (not (list_any p xs)) (at_most_one p xs)
 
--- some item at a place other than `i` passes
+-- `p` is true of some item at a place other than `i`
 abbrev pub any_other : {X : Type 0} → (X → Bool) → ℕ → List X → Bool
 any_other p i [] = false
 any_other p zero (x ∷ xs) = list_any p xs
 any_other p (suc i) (x ∷ xs) = p x || any_other p i xs
 
--- the pin is a driver that is always on
+-- there is a driver, and it is always on
 abbrev pub is_always_on : Option Drive → Bool
 is_always_on None = false
 is_always_on (Some AlwaysOn) = true
 is_always_on (Some OneSided) = false
 is_always_on (Some (By c)) = false
 
--- control `c` enables the driver
+-- there is a driver, and control `c` enables it
 abbrev pub is_by : Ctl → Option Drive → Bool
 is_by c None = false
 is_by c (Some AlwaysOn) = false
@@ -55,11 +55,12 @@ drives_net board c net = list_any (λ p. is_by c (drive board net p)) net.pins
 abbrev pub is_closed : RawBoard → Net → Bool
 is_closed board net = guarded board net || list_any (λ p. is_always_on (drive board net p)) net.pins
 
--- a safe setting may have the control, as far as this net is concerned
+-- As far as this net is concerned, a safe setting may have the control: the control enables at most one driver of the net, and none if
+-- the net is closed.
 abbrev pub admits : RawBoard → Ctl → Net → Bool
 admits board c net = at_most_one (λ p. is_by c (drive board net p)) net.pins && not (drives_net board c net && is_closed board net)
 
--- the place in the chain, if there is one, is `at`
+-- there is a place in the chain, and it is `at`
 abbrev pub is_at : PinAt → Option PinAt → Bool
 is_at at None = false
 is_at at (Some b) = (b.part == at.part) && (b.bit == at.bit)
@@ -72,7 +73,7 @@ is_switched board at value net = lets_switch board net value && list_any (λ p. 
 abbrev pub is_switching : RawBoard → PinAt → Bool → Bool
 is_switching board at value = list_any (is_switched board at value) board.nets
 
--- the entry's control, if the control is the entry's own cell
+-- the control, if it is the entry's own cell
 abbrev pub own_where : Cell → Option Control → Option Control
 own_where cell None = None
 own_where cell (Some control) = cond (control.cell == cell.num) (Some control) None
@@ -81,21 +82,22 @@ own_where cell (Some control) = cond (control.cell == cell.num) (Some control) N
 abbrev pub own_control : RawBoard → PinAt → Option Control
 own_control board at = option_and_then (λ cell. own_where cell cell.ctl) (entry_at board at)
 
--- a driver at `at` with this control of its own is one-sided, and its cell is number `cell`
+-- The driver at `at` is one-sided, and its control is cell number `cell`. The last argument is the driver's control, or None if the
+-- control is not the driver's own cell.
 abbrev pub is_one_sided_by : RawBoard → ℕ → PinAt → Option Control → Bool
 is_one_sided_by board cell at None = false
 is_one_sided_by board cell at (Some control) = (control.cell == cell) && is_pinned board at && not (is_switching board at control.disable)
 
--- the number of port bits of a device
+-- the number of port bits of a device, or 0 without a device
 abbrev pub bit_count : Option RawDevice → ℕ
 bit_count None = 0
 bit_count (Some device) = length device.bits
 
--- the number of port bits of a part
+-- the number of port bits of part number `part`, or 0 if the part is not described
 abbrev pub count_port_bits : RawBoard → ℕ → ℕ
 count_port_bits board part = bit_count (device_at board part)
 
--- the control enables a one-sided driver, which may be on a net or not
+-- the control enables a one-sided driver, whether or not the driver is on a net
 abbrev pub enables_one_sided : RawBoard → Ctl → Bool
 enables_one_sided board c =
     any_below (count_port_bits board c.part)
@@ -110,7 +112,7 @@ is_safe_alone board c = list_all (admits board c) board.nets && not (enables_one
 abbrev pub share_net : RawBoard → Ctl → Ctl → Bool
 share_net board a b = list_any (λ net. drives_net board a net && drives_net board b net) board.nets
 
--- the two controls are together
+-- the two controls are together: the setting with these two controls is safe
 abbrev pub are_together : RawBoard → Ctl → Ctl → Bool
 are_together board a b = is_safe_alone board a && is_safe_alone board b && (same_ctl a b || not (share_net board a b))
 
@@ -121,7 +123,7 @@ can_enable board (Some AlwaysOn) = true
 can_enable board (Some OneSided) = false
 can_enable board (Some (By c)) = is_safe_alone board c
 
--- the way in which the pin's driver is enabled on the net, or None if there is no pin or the pin is no driver
+-- the way in which the pin's driver is enabled on the net, or None if there is no pin or the pin is not a driver
 abbrev pub drive_in : RawBoard → Net → Option NetPin → Option Drive
 drive_in board net pin = option_and_then (λ p. drive board net p) pin
 
@@ -155,7 +157,7 @@ are_compatible board (Some (By c)) (Some OneSided) = false
 are_compatible board (Some (By c)) (Some AlwaysOn) = is_safe_alone board c
 are_compatible board (Some (By c)) (Some (By d)) = are_together board c d
 
--- the drivers at these places of the two nets are tested, and one safe setting enables both
+-- net `a`'s driver at place `i` and net `b`'s driver at place `j` are tested, and one safe setting enables both
 abbrev pub are_paired_at : RawBoard → Net → Net → ℕ → ℕ → Bool
 are_paired_at board a b i j =
     is_tested_driver board a i && is_tested_driver board b j
@@ -177,7 +179,7 @@ tests_by board c net = any_below (length net.pins) (tests_by_at board c net)
 abbrev pub is_useful : RawBoard → Ctl → Bool
 is_useful board c = is_safe_alone board c && list_any (tests_by board c) board.nets
 
--- the first reason that applies, for a net that is not covered
+-- The first reason that applies to the net. The net must not be covered.
 abbrev pub first_reason : RawBoard → Net → Reason
 first_reason board net =
     cond net.supply Supply

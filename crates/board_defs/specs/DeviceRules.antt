@@ -109,7 +109,7 @@ bit_of One = true
 bit_of Zero = false
 bit_of Any = false
 
--- the entry's port bit, if it has one, is `bit`
+-- the entry has a port bit, and it is `bit`
 abbrev pub is_on : ℕ → Option ℕ → Bool
 is_on bit None = false
 is_on bit (Some b) = b == bit
@@ -118,7 +118,7 @@ is_on bit (Some b) = b == bit
 abbrev pub drives_bit : ℕ → Cell → Bool
 drives_bit bit cell = is_on bit cell.bit && is_driving cell.role
 
--- the entry is a receiver's entry of port bit `bit`
+-- the entry belongs to port bit `bit`, and its function can make a pin a receiver
 abbrev pub reads_bit : ℕ → Cell → Bool
 reads_bit bit cell = is_on bit cell.bit && is_receiving cell.role
 
@@ -126,7 +126,7 @@ reads_bit bit cell = is_on bit cell.bit && is_receiving cell.role
 abbrev pub driving_entry : RawDevice → ℕ → Option Cell
 driving_entry device bit = find (drives_bit bit) device.cells
 
--- the first entry of a cell whose function is one of `roles`
+-- the first entry of cell number `cell` that has one of the functions `roles`
 abbrev pub entry_of : (Role → Bool) → RawDevice → ℕ → Option Cell
 entry_of roles device cell = find (λ entry. (entry.num == cell) && roles entry.role) device.cells
 
@@ -143,7 +143,7 @@ abbrev pub or_entry : Option Cell → Option Cell → Option Cell
 or_entry None second = second
 or_entry (Some first) second = Some first
 
--- the safe value of a cell: that of the entry for its update latch if it has one, else that of its reading entry
+-- the safe value of a cell: that of the entry for its update latch if there is one, otherwise that of its reading entry
 abbrev pub safe_value : RawDevice → ℕ → Option Symbol
 safe_value device cell = option_map (λ entry. entry.safe) (or_entry (writing_entry device cell) (reading_entry device cell))
 
@@ -188,7 +188,7 @@ pub record ArePort (bits : List PortBit) : Type 0 where
   pub one_mode : AllPairs (λ a b. a.mode ≡ b.mode) bits
   pub mapped_whole : AllPairs (λ a b. is_some a.pin ≡ is_some b.pin) bits
 
--- the bits are in the order of the ports, no two ports have the same name, and each port has bits
+-- The port bits are in the order of their ports. No two ports have the same name, and each port has bits.
 pub record AreOfPorts (device : RawDevice) : Type 0 where
   pub ports_differ : AllPairs (λ a b. a ≢ b) device.ports
   pub in_order : IsNonDecreasing (map (λ bit. bit.port) device.bits)
@@ -211,7 +211,8 @@ PortPinsDiffer device =
     (i j : ℕ) (a b : PortBit) (pin : List ℕ) → slice_get device.bits i ≡ Some a
     → slice_get device.bits j ≡ Some b → a.pin ≡ Some pin → b.pin ≡ Some pin → i ≡ j
 
--- an entry has a port bit, which must exist, if and only if its function is not CONTROL, CONTROLR or INTERNAL
+-- An entry with the function CONTROL, CONTROLR or INTERNAL has no port bit. Any other entry has one of the device's port bits, of which
+-- there are `bits`.
 abbrev pub HasPlace : ℕ → Role → Option ℕ → Type 0
 HasPlace bits role None = is_inner role ≡ true
 HasPlace bits role (Some bit) = (is_inner role ≡ false) × (bit < bits)
@@ -236,7 +237,7 @@ OneDisable device =
     → slice_get device.cells j ≡ Some d → e.ctl ≡ Some a → d.ctl ≡ Some b → a.cell ≡ b.cell
     → a.disable ≡ b.disable
 
--- a cell has at most one entry whose function is one of `roles`
+-- a cell has at most one entry with one of the functions `roles`
 abbrev pub OneOf : (Role → Bool) → RawDevice → Type 0
 OneOf roles device =
     (i j : ℕ) (e d : Cell) → slice_get device.cells i ≡ Some e → slice_get device.cells j ≡ Some d
@@ -254,8 +255,8 @@ EntriesFitPorts device =
     (i b : ℕ) (e : Cell) (bit : PortBit) → slice_get device.cells i ≡ Some e → e.bit ≡ Some b → slice_get device.bits b ≡ Some bit →
     (bit.tap ≡ false) × (is_driving e.role ≡ true → may_drive bit.mode ≡ true)
 
--- The preload and EXTEST codes have the length of the instruction register and no X. They differ, and neither has only ones, since that
--- code is BYPASS. In a description older than 2001, the EXTEST code has only zeros. An identification pattern has 32 symbols.
+-- The preload and EXTEST codes have the length of the instruction register and no X. The two codes differ. Neither has only ones, since
+-- that is the BYPASS code. In a description older than 2001, the EXTEST code has only zeros. An identification pattern has 32 symbols.
 pub record HasCodes (device : RawDevice) : Type 0 where
   pub sample_length : length device.sample ≡ device.ir
   pub extest_length : length device.extest ≡ device.ir
@@ -267,7 +268,7 @@ pub record HasCodes (device : RawDevice) : Type 0 where
   pub old_extest : device.edition ≡ Old → All (λ s. s ≡ Zero) device.extest
   pub idcode_length : IfSome device.idcode (λ code. length code ≡ 32)
 
--- the rules of devices
+-- all rules of devices
 pub record IsDevice (device : RawDevice) : Type 0 where
   pub ir_least : 2 ≤ device.ir
   pub ir_most : device.ir ≤ most_instruction_bits

@@ -38,15 +38,15 @@ tested_pins_in board net =
 abbrev pub tested_pins : RawBoard → List PinRef
 tested_pins board = flat_map (tested_pins_in board) (numbered_nets board)
 
--- the pairs of paired nets, in pair order
+-- the pairs of paired nets, ordered by the first net and then by the second
 abbrev pub paired_nets : RawBoard → List (Numbered × Numbered)
 paired_nets board = filter (λ pair. are_paired board pair.0.1 pair.1.1) (pairs_within (numbered_nets board))
 
--- the two faults in which the net is stuck, at 0 and at 1
+-- the two faults in which the net is stuck, one at 0 and one at 1
 abbrev pub stuck_faults : ℕ → List Single
 stuck_faults net = StuckNet net false ∷ StuckNet net true ∷ []
 
--- the two faults in which the pin is open and reads 0 or 1
+-- the two faults in which the pin is open, one with the value 0 and one with the value 1
 abbrev pub open_faults : PinRef → List Single
 open_faults pin = OpenPin pin false ∷ OpenPin pin true ∷ []
 
@@ -71,15 +71,15 @@ IsSingle board (Short a b kind) = (a < b) × ArePaired board a b
 abbrev pub PinPrecedes : PinRef → PinRef → Type 0
 PinPrecedes p q = (p.net < q.net) ⊎ ((p.net ≡ q.net) × (p.place < q.place))
 
--- the place of a kind of short in the order of kinds
+-- the rank of a kind of short in the order of kinds
 abbrev pub kind_rank : Kind → ℕ
 kind_rank And = 0
 kind_rank Or = 1
 kind_rank First = 2
 kind_rank Second = 3
 
--- The order of single faults: stuck nets in net order, then open pins in pin order, then shorts in pair order. For one net or
--- pin, the value 0 comes before 1. For one pair, shorts are ordered by kind.
+-- The order of single faults: stuck nets in net order, then open pins in pin order, then shorts by their first net and then by their
+-- second. For one net or pin, the value 0 comes before 1. For one pair of nets, shorts are ordered by kind.
 abbrev pub SinglePrecedes : Single → Single → Type 0
 SinglePrecedes (StuckNet n v) (StuckNet m w) = (n < m) ⊎ ((n ≡ m) × (v ≡ false) × (w ≡ true))
 SinglePrecedes (StuckNet n v) (OpenPin q w) = Unit {0}

@@ -1,4 +1,4 @@
--- The laws of boards. Each law is the contract of a function of its own.
+-- The laws of boards. Each law is the contract of a function of its own, in `src/law.rt`.
 use Rattle.std.specs.Prelude.{◌≡◌, ◌≢◌, ◌↔◌, ℕ, true, List, [], Some, slice_get, MatchOption, Contains, AllPairs}
 use Rattle.std.specs.Bool.{Decides}
 use Rattle.board_defs.specs.declared.board.NetPin.{NetPin}
@@ -16,11 +16,12 @@ use Rattle.board_defs.specs.Decided.{is_safe_alone, are_together, are_compatible
 use Rattle.board_defs.specs.Passes.{useful_controls, tested_drivers, is_enabled, with_driver, joins_setting, is_new, shows, passes_of, SomePass, ArePasses}
 use Rattle.board_defs.specs.Faults.{singles, SinglePrecedes, IsSingle}
 
--- a setting is safe if and only if each of its controls alone and every two of its controls are safe
+-- on a board that keeps the rules of boards, a setting is safe if and only if each of its controls alone and every two of its controls
+-- are safe
 abbrev pub SafeByPairs : Type 0
 SafeByPairs = (board : RawBoard) (setting : Enabling) → IsBoard board → IsSafe board setting ↔ IsPairwiseSafe board setting
 
--- Each function of `Decided` decides its term. The functions look only at single controls and at pairs of controls,
+-- Each test of `Decided.antt` passes if and only if its term is true. The tests look only at single controls and at pairs of controls,
 -- while most terms ask for some safe setting.
 pub record DecidesTerms (board : RawBoard) : Type 0 where
   pub safe : (c : Ctl) → Decides (is_safe_alone board c) (IsSafe board (just c))
@@ -38,11 +39,11 @@ pub record DecidesTerms (board : RawBoard) : Type 0 where
   pub tested_receiver : (n : ℕ) (net : Net) (place : ℕ) → slice_get board.nets n ≡ Some net
       → Decides (is_tested_receiver board net place) (IsTestedReceiver board n place)
 
--- the functions decide the terms on every board
+-- on every board that keeps the rules of boards, the tests agree with the terms
 abbrev pub TermsDecided : Type 0
 TermsDecided = (board : RawBoard) → IsBoard board → DecidesTerms board
 
--- the net has a tested driver that is enabled in the way `d`
+-- net number `n` has a tested driver, and `d` is the way in which it is enabled
 pub record HasTestedDriver (board : RawBoard) (n : ℕ) (net : Net) (d : Drive) : Type 0 where
   pub place : ℕ
   pub pin : NetPin
@@ -82,20 +83,20 @@ pub record SaysPasses (board : RawBoard) : Type 0 where
       → Decides (are_compatible board (Some d) (Some e))
       (IsSafe board (holds (with_driver (with_driver [] d) e)))
 
--- the tests that choose the passes agree with the terms, and `passes_of` gives passes of the board
+-- the tests that choose the passes agree with their terms, and `passes_of` meets the requirements on passes
 pub record PassesAre (board : RawBoard) : Type 0 where
   pub said : SaysPasses board
   pub kept : ArePasses board (passes_of board)
 
--- `PassesAre` is true of every board
+-- every board that keeps the rules of boards has the property `PassesAre`
 abbrev pub PassesKept : Type 0
 PassesKept = (board : RawBoard) → IsBoard board → PassesAre board
 
--- the list has exactly the board's single faults, each once and in order
+-- `singles` lists exactly the board's single faults, each once and in order
 pub record ListsSingles (board : RawBoard) : Type 0 where
   pub exactly : (single : Single) → Contains (singles board) single ↔ IsSingle board single
   pub in_order : AllPairs SinglePrecedes (singles board)
 
--- `ListsSingles` is true of every board
+-- every board that keeps the rules of boards has the property `ListsSingles`
 abbrev pub SinglesListed : Type 0
 SinglesListed = (board : RawBoard) → IsBoard board → ListsSingles board

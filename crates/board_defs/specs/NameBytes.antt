@@ -1,4 +1,4 @@
--- The bytes of a name, short or long.
+-- The bytes of a name. A short name keeps its bytes in place, and a long name keeps them in a vector.
 use Rattle.std.specs.Prelude.{List, ℕ, take, ◌≤◌, ⊤}
 use Rattle.board_defs.specs.declared.name.Kept.{Kept}
 use Rattle.board_defs.specs.declared.name.Kept.TheVariants.{Short, Long}
@@ -7,7 +7,7 @@ abbrev pub kept_bytes : Kept → List ℕ
 kept_bytes (Short bytes count) = take count bytes
 kept_bytes (Long bytes) = bytes.items
 
--- the number of bytes of a short name is at most the room in the value
+-- a short name has at most the 24 bytes that fit in place
 abbrev pub FitsInPlace : Kept → Type 0
 FitsInPlace (Short bytes count) = count ≤ 24
 FitsInPlace (Long bytes) = ⊤

@@ -1,5 +1,5 @@
--- The passes of a board. The first ones together enable every tested driver. Later ones are added until, for every two paired nets, some
--- pass observes both.
+-- The passes of a board: the settings in which its test runs, in turn. The first ones together enable every tested driver. Later ones are
+-- added until, for every two paired nets, some pass observes both.
 use Rattle.std.specs.Prelude.{◌≡◌, ◌⊎◌, ℕ, Bool, true, false, not, ◌&&◌, List, [], ◌∷◌, ◌++◌, map, filter, filter_map, find, fold, take, length, Option, Some, None, slice_get, cond}
 use Rattle.std.specs.List.{list_any, list_all, flat_map, enumerate_from, range_with_len}
 use Rattle.board_defs.specs.declared.board.PartKind.{PartKind}
@@ -54,29 +54,30 @@ joins_setting board setting c = list_all (are_together board c) setting
 abbrev pub is_new : List (List Ctl) → Ctl → Bool
 is_new earlier c = not (list_any (λ pass. holds pass c) earlier)
 
--- the setting after a walk over the controls in order, which adds each control that `accepts` accepts for the setting so far
+-- Goes through the controls in order, starting from `setting`, and adds each control that `accepts` accepts for the setting so far. The
+-- value is the final setting.
 abbrev pub walk : (List Ctl → Ctl → Bool) → List Ctl → List Ctl → List Ctl
 walk accepts controls setting = fold (λ s c. cond (accepts s c) (inserted c s) s) setting controls
 
--- First walk: adds each useful control that fits and that no earlier pass has.
+-- First walk: adds each useful control that no earlier pass has and that is together with every control of the setting so far.
 abbrev pub first_walk : RawBoard → List Ctl → List (List Ctl) → List Ctl → List Ctl
 first_walk board useful earlier setting = walk (λ s c. is_new earlier c && joins_setting board s c) useful setting
 
--- Second walk: adds each useful control that fits.
+-- Second walk: adds each useful control that is together with every control of the setting so far.
 abbrev pub second_walk : RawBoard → List Ctl → List Ctl → List Ctl
 second_walk board useful setting = walk (joins_setting board) useful setting
 
--- the pass that is made for a tested driver that no earlier pass enables
+-- the new pass for a tested driver that no earlier pass enables
 abbrev pub driver_pass : RawBoard → List Ctl → List (List Ctl) → Drive → List Ctl
 driver_pass board useful earlier d = second_walk board useful (first_walk board useful earlier (with_driver [] d))
 
--- the passes, followed by one for the driver if none of them enables it
+-- the passes, followed by a new pass for the driver if none of them enables it
 abbrev pub add_for_driver : RawBoard → List Ctl → List (List Ctl) → Drive → List (List Ctl)
 add_for_driver board useful passes d =
     cond (list_any (λ pass. is_enabled pass d) passes) passes
     (passes ++ driver_pass board useful passes d ∷ [])
 
--- the passes that are made for the drivers in turn, so that each driver is enabled in some pass
+-- the passes for a list of drivers, each of which some pass then enables
 abbrev pub driver_passes : RawBoard → List Ctl → List Drive → List (List Ctl)
 driver_passes board useful drivers = fold (add_for_driver board useful) [] drivers
 
@@ -101,22 +102,22 @@ pairs_within (x ∷ xs) = map (λ y. (x, y)) xs ++ pairs_within xs
 abbrev pub first_pair : RawBoard → List Drive → List Drive → Option (Drive × Drive)
 first_pair board a b = find (λ pair. are_compatible board (Some pair.0) (Some pair.1)) (pairs_of a b)
 
--- the pass that is made from this pair of drivers for two paired nets that no earlier pass observes together
+-- the new pass for two paired nets that no earlier pass observes together, made from one driver of each net
 abbrev pub pair_pass : RawBoard → List Ctl → Drive × Drive → List Ctl
 pair_pass board useful pair = second_walk board useful (with_driver (with_driver [] pair.0) pair.1)
 
--- the passes, followed by one for the pair of drivers if there is a pair
+-- the passes, followed by a new pass for the pair of drivers if there is a pair
 abbrev pub with_pair : RawBoard → List Ctl → List (List Ctl) → Option (Drive × Drive) → List (List Ctl)
 with_pair board useful passes None = passes
 with_pair board useful passes (Some pair) = passes ++ pair_pass board useful pair ∷ []
 
--- the passes, followed by one for the two nets if these are paired and none of the passes observes both
+-- the passes, followed by a new pass for the two nets if they are paired and none of the passes observes both
 abbrev pub add_for_nets : RawBoard → List Ctl → List (List Ctl) → List Drive × List Drive → List (List Ctl)
 add_for_nets board useful passes nets =
     cond (are_shown passes nets.0 nets.1) passes
     (with_pair board useful passes (first_pair board nets.0 nets.1))
 
--- The passes, followed by those that are made for the pairs of nets in turn. For every two paired nets, some pass then observes both.
+-- The passes, followed by new ones for pairs of nets. For every two paired nets, some pass then observes both.
 abbrev pub pair_passes : RawBoard → List Ctl → List (List Ctl) → List (List Drive) → List (List Ctl)
 pair_passes board useful passes nets = fold (add_for_nets board useful) passes (pairs_within nets)
 
@@ -131,11 +132,11 @@ passes_of board =
     let nets : List (List Drive) = drivers_by_net board in
     pair_passes board useful (driver_passes board useful (flat_map (λ drivers. drivers) nets)) nets
 
--- `P` is true of some pass
+-- some pass has property `P`
 abbrev pub SomePass : List (List Ctl) → (Enabling → Type 0) → Type 0
 SomePass passes P = (x : ℕ) × (pass : List Ctl) × (slice_get passes x ≡ Some pass) × P (holds pass)
 
--- the pass observes a net by one of its tested drivers, by which no earlier pass observes the net
+-- the pass observes a net by a tested driver, and no earlier pass observes the net by this driver
 pub record EnablesNew (board : RawBoard) (earlier : List (List Ctl)) (pass : List Ctl) : Type 0 where
   pub net : ℕ
   pub place : ℕ
@@ -152,7 +153,8 @@ pub record ObservesNew (board : RawBoard) (earlier : List (List Ctl)) (pass : Li
   pub first : SomePass earlier (λ setting. ObservesNet board setting low × ObservesNet board setting high) → ⊥
 
 -- The requirements on passes. Each pass is safe. If some safe setting observes a net or two nets, or tests a driver or a receiver, then
--- some pass does so. Each pass enables a tested driver, or observes two paired nets at once, for the first time.
+-- some pass does so. Each pass observes a net by some tested driver for the first time, or observes two paired nets together for the
+-- first time.
 pub record ArePasses (board : RawBoard) (passes : List (List Ctl)) : Type 0 where
   pub safe : (x : ℕ) (pass : List Ctl) → slice_get passes x ≡ Some pass → IsSafe board (holds pass)
   pub nets : (n : ℕ) → IsCovered board n → SomePass passes (λ setting. ObservesNet board setting n)

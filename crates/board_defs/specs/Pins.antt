@@ -58,7 +58,7 @@ abbrev pub cell_count : Option RawDevice → ℕ
 cell_count None = 0
 cell_count (Some device) = device.boundary
 
--- the control is a boundary cell of a described part
+-- the control names a boundary cell of a described part
 abbrev pub IsCell : RawBoard → Ctl → Type 0
 IsCell board c = c.cell < cell_count (device_at board c.part)
 
@@ -70,7 +70,8 @@ entry_at board at = option_and_then (λ device. driving_entry device at.bit) (de
 abbrev pub bit_at : RawBoard → PinAt → Option PortBit
 bit_at board at = option_and_then (λ device. slice_get device.bits at.bit) (device_at board at.part)
 
--- the chosen pin map assigns a pin to the port bit; with a driving entry, such a pin is a driver even if no net has it
+-- The chosen pin map assigns a pin to the port bit. If the port bit has a driving entry, that pin is a driver, whether or not it is on a
+-- net.
 abbrev pub is_pinned : RawBoard → PinAt → Bool
 is_pinned board at = is_some (option_and_then (λ bit. bit.pin) (bit_at board at))
 
@@ -83,8 +84,8 @@ is_test_bit (Some bit) = bit.tap || bit.compliance
 abbrev pub is_test_pin : RawBoard → NetPin → Bool
 is_test_pin board pin = is_test_bit (option_and_then (bit_at board) pin.at)
 
--- A port bit of the test access port is never dark. Any other port bit is dark if its port is linkage, if it has no entry, or if the
--- part can drive it and it has no driving entry.
+-- Port bit `n` is dark. A missing port bit is dark, and a port bit of the test access port is never dark. Any other port bit is dark if
+-- its port is linkage, if it has no entry, or if the part can drive it and it has no driving entry.
 abbrev pub is_dark_bit : RawDevice → ℕ → Option PortBit → Bool
 is_dark_bit device n None = true
 is_dark_bit device n (Some bit) =
@@ -96,7 +97,7 @@ abbrev pub is_dark_in : Option RawDevice → ℕ → Bool
 is_dark_in None n = true
 is_dark_in (Some device) n = is_dark_bit device n (slice_get device.bits n)
 
--- the pin of a described part is dark if its port bit is, and any other pin is dark if its part is not inert
+-- A pin of a described part is dark if its port bit is. Any other pin is dark if it is not inert.
 abbrev pub is_dark_where : RawBoard → Option PinAt → Bool → Bool
 is_dark_where board None inert = not inert
 is_dark_where board (Some at) inert = is_dark_in (device_at board at.part) at.bit
@@ -105,7 +106,7 @@ is_dark_where board (Some at) inert = is_dark_in (device_at board at.part) at.bi
 abbrev pub is_dark : RawBoard → NetPin → Bool
 is_dark board pin = is_dark_where board pin.at pin.inert
 
--- the pin makes its net guarded
+-- the pin makes its net guarded: it is a pin of a test access port, a pin that compliance patterns name, or a dark pin
 abbrev pub guards : RawBoard → NetPin → Bool
 guards board pin = is_test_pin board pin || is_dark board pin
 
@@ -123,7 +124,8 @@ abbrev pub is_pulled_to : Bool → Option Bool → Bool
 is_pulled_to value None = false
 is_pulled_to value (Some b) = is_same value b
 
--- the net is unguarded and pulled to `value`, so a driver that its own cell disables at this value is a switching driver of the net
+-- The net is unguarded and pulled to `value`. A driver of the net that its own cell disables at this value is therefore a switching
+-- driver.
 abbrev pub lets_switch : RawBoard → Net → Bool → Bool
 lets_switch board net value = not (guarded board net) && is_pulled_to value net.pull
 
@@ -144,12 +146,12 @@ drive_where board net (Some at) = option_map (λ cell. drive_by board net at.par
 abbrev pub drive : RawBoard → Net → NetPin → Option Drive
 drive board net pin = drive_where board net pin.at
 
--- a driver with this control is a switching driver: the control is its own cell, and the net is unguarded and pulled to the disable value
+-- a driver with this control is a switching driver: its control is its own cell, and the net is unguarded and pulled to the disable value
 abbrev pub switches_by : RawBoard → Net → Cell → Option Control → Bool
 switches_by board net cell None = false
 switches_by board net cell (Some control) = (control.cell == cell.num) && lets_switch board net control.disable
 
--- like `switches_by`, but for the driving entry of a pin; a pin without a driving entry is not a switching driver
+-- like `switches_by`, but for a driving entry; false without an entry
 abbrev pub switches_entry : RawBoard → Net → Option Cell → Bool
 switches_entry board net None = false
 switches_entry board net (Some cell) = switches_by board net cell cell.ctl
@@ -158,17 +160,17 @@ switches_entry board net (Some cell) = switches_by board net cell cell.ctl
 abbrev pub switches : RawBoard → Net → NetPin → Bool
 switches board net pin = switches_entry board net (option_and_then (entry_at board) pin.at)
 
--- a port bit is that of a receiver: it has mode in or inout, and an INPUT, CLOCK or BIDIR entry
+-- a pin at this port bit is a receiver: the port bit has mode in or inout, and an INPUT, CLOCK or BIDIR entry
 abbrev pub receives_bit : RawDevice → ℕ → Option PortBit → Bool
 receives_bit device n None = false
 receives_bit device n (Some bit) = may_receive bit.mode && list_any (reads_bit n) device.cells
 
--- like `receives_bit`, but for bit `n` of a device, if there is a device
+-- like `receives_bit`, but for bit `n` of a device; false without a device
 abbrev pub receives_in : Option RawDevice → ℕ → Bool
 receives_in None n = false
 receives_in (Some device) n = receives_bit device n (slice_get device.bits n)
 
--- like `receives_bit`, but for the port bit at a place of the chain, if there is a place
+-- like `receives_bit`, but for the port bit at a place of the chain; false without a place
 abbrev pub receives_where : RawBoard → Option PinAt → Bool
 receives_where board None = false
 receives_where board (Some at) = receives_in (device_at board at.part) at.bit

@@ -1,4 +1,4 @@
--- Settings: the drivers that a set of controls enables, when the set is safe, and the nets that it observes.
+-- Settings: the drivers that a setting enables, the nets that it observes, and when it is safe.
 use Rattle.std.specs.Prelude.{◌≡◌, ◌≢◌, ℕ, nat_lt, cond, ◌==◌, Bool, true, false, ◌&&◌, ◌||◌, List, [], ◌∷◌, Option, Some, None, slice_get, AllPairs, IsTrue}
 use Rattle.std.specs.List.{list_any}
 use Rattle.board_defs.specs.declared.device.Control.{Control}
@@ -11,7 +11,7 @@ use Rattle.board_defs.specs.declared.board.Ctl.{Ctl}
 use Rattle.board_defs.specs.declared.board.Drive.TheVariants.{By}
 use Rattle.board_defs.specs.Pins.{drive, receives, guarded, entry_at, is_pinned}
 
--- a set of controls, as the test whether a control is in the set
+-- a setting: a set of controls, as the test whether a control is in the set
 abbrev pub Enabling : Type 0
 Enabling = Ctl → Bool
 
@@ -19,15 +19,15 @@ Enabling = Ctl → Bool
 abbrev pub same_ctl : Ctl → Ctl → Bool
 same_ctl a b = (a.part == b.part) && (a.cell == b.cell)
 
--- the set of the controls in a list
+-- the setting with the controls of a list
 abbrev pub holds : List Ctl → Enabling
 holds list c = list_any (same_ctl c) list
 
--- the set that has one control
+-- the setting with one control
 abbrev pub just : Ctl → Enabling
 just a c = same_ctl c a
 
--- the set that has two controls
+-- the setting with two controls
 abbrev pub both : Ctl → Ctl → Enabling
 both a b c = same_ctl c a || same_ctl c b
 
@@ -58,7 +58,7 @@ enables_entry setting part (Some cell) = enables_by setting part cell.ctl
 abbrev pub enables_at : RawBoard → Enabling → PinAt → Bool
 enables_at board setting at = enables_entry setting at.part (entry_at board at)
 
--- like `enables_at`, but for a place that a pin may not have
+-- like `enables_at`, but false if there is no place
 abbrev pub enables_where : RawBoard → Enabling → Option PinAt → Bool
 enables_where board setting None = false
 enables_where board setting (Some at) = enables_at board setting at
@@ -74,8 +74,8 @@ SwitchesAt board at value =
     × (slice_get net.pins i ≡ Some pin) × (pin.at ≡ Some at) × (guarded board net ≡ false)
     × (net.pull ≡ Some value)
 
--- Each net has at most one enabled driver. No controlled driver of a guarded net is enabled. A driver that is enabled by its own
--- cell is a switching driver, so no one-sided driver is enabled, whether or not it is on a net.
+-- Each net has at most one enabled driver. No controlled driver of a guarded net is enabled. A driver that its own cell enables is a
+-- switching driver, so no one-sided driver is enabled, whether or not it is on a net.
 pub record IsSafe (board : RawBoard) (setting : Enabling) : Type 0 where
   pub one : (n : ℕ) (net : Net) (i j : ℕ) (p q : NetPin) → slice_get board.nets n ≡ Some net
       → slice_get net.pins i ≡ Some p → slice_get net.pins j ≡ Some q → i ≢ j
@@ -88,7 +88,7 @@ pub record IsSafe (board : RawBoard) (setting : Enabling) : Type 0 where
       → setting (record { part = at.part; cell = control.cell }) ≡ true
       → SwitchesAt board at control.disable
 
--- the setting enables the pin at `place` of the net, the net is not guarded, and another pin of the net is a receiver
+-- the setting enables the driver at `place` of the net, the net is not guarded, and another pin of the net is a receiver
 pub record ObservesBy (board : RawBoard) (setting : Enabling) (net : Net) (place : ℕ) : Type 0 where
   pub pin : NetPin
   pub stands : slice_get net.pins place ≡ Some pin
@@ -108,7 +108,7 @@ Observes board setting net = (place : ℕ) × ObservesBy board setting net place
 abbrev pub ObservesNet : RawBoard → Enabling → ℕ → Type 0
 ObservesNet board setting n = (net : Net) × (slice_get board.nets n ≡ Some net) × Observes board setting net
 
--- each control of the setting alone and every two of its controls are safe
+-- each control of the setting alone is a safe setting, and so are every two of its controls
 pub record IsPairwiseSafe (board : RawBoard) (setting : Enabling) : Type 0 where
   pub each : (c : Ctl) → setting c ≡ true → IsSafe board (just c)
   pub each_two : (c d : Ctl) → setting c ≡ true → setting d ≡ true → IsSafe board (both c d)

@@ -1,4 +1,4 @@
-// A board: its chain and its nets, and questions about its pins.
+// A board: its chain, its nets, and questions about their pins.
 ghost use Rattle.std.specs.Prelude.{◌≡◌, ◌<◌, length};
 ghost use Rattle.board_defs.specs.BoardRules.{IsBoard};
 ghost use Rattle.board_defs.specs.Pins.{instruction_bits, data_bits, drive_at, switches_at, receives_at, guarded_at, IsOnBoard};
@@ -10,8 +10,8 @@ use crate::name::Name;
 use lists::Items;
 use std::marker::Model;
 
-/// The kind of a part of the chain. A part is a described device, or a part of which only the length of the instruction
-/// register is known, in bits. A part of the second kind stays in BYPASS.
+/// The kind of a part of the chain. A described part is a device. A part without a description has an instruction
+/// register of known length, in bits, and stays in BYPASS.
 #[derive(Drop)]
 pub enum PartKind {
     Described(Device),
@@ -146,7 +146,9 @@ impl Board {
         data_bits(self.raw().chain.as_slice())
     }
 
-    /// Returns whether the net is guarded. On a guarded net, only drivers that are always on may be enabled.
+    /// Returns whether the net is guarded: it carries a supply, or has a pin of a test access port, a pin that
+    /// compliance patterns name, or a dark pin. On a guarded net, only drivers that are always on may be enabled. The
+    /// board must have a net with this number.
     pub fn is_guarded(&self, net: u32) -> bool
         requires { net < length self.now.nets }
         ensures { result ≡ guarded_at self.now net }
@@ -155,7 +157,7 @@ impl Board {
         raw.is_guarded(&raw.nets.as_slice()[net as usize])
     }
 
-    /// Returns how the pin's driver is enabled, or None if the pin is not a driver.
+    /// Returns how the pin's driver is enabled, or None if the pin is not a driver. The pin must be on the board.
     pub fn drive(&self, pin: PinRef) -> Option<Drive>
         requires { IsOnBoard self.now pin }
         ensures { result ≡ drive_at self.now pin }
@@ -164,7 +166,7 @@ impl Board {
     }
 
     /// Returns whether the pin is a switching driver: its own cell enables it, and its net is unguarded and is pulled
-    /// to the cell's disable value.
+    /// to the cell's disable value. The pin must be on the board.
     pub fn switches(&self, pin: PinRef) -> bool
         requires { IsOnBoard self.now pin }
         ensures { result ≡ switches_at self.now pin }
@@ -172,7 +174,8 @@ impl Board {
         self.raw().switches_at(pin)
     }
 
-    /// Returns whether the pin is a receiver.
+    /// Returns whether the pin is a receiver: its port bit has mode in or inout, and an INPUT, CLOCK or BIDIR entry.
+    /// The pin must be on the board.
     pub fn receives(&self, pin: PinRef) -> bool
         requires { IsOnBoard self.now pin }
         ensures { result ≡ receives_at self.now pin }

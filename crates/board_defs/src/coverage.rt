@@ -7,7 +7,7 @@ pub enum Reason {
     Supply,
     /// The net has a pin of a test access port, or a pin that compliance patterns name.
     TestPort,
-    /// The net has a dark pin.
+    /// The net has a dark pin: something that no setting controls may drive the net.
     Dark,
     /// The net has no driver.
     NoDriver,

@@ -15,7 +15,8 @@ pub enum Symbol {
     Any,
 }
 
-/// The pattern of a register. The first symbol is nearest TDO. A pattern has fewer than 2^32 symbols.
+/// A pattern of symbols: the code of an instruction, or an identification code. The first symbol is nearest TDO. A
+/// pattern has fewer than 2^32 symbols.
 #[derive(Debug, Drop)]
 pub struct Code {
     symbols: Vec<Symbol>,
@@ -80,7 +81,7 @@ impl Code {
         self.symbols.is_empty()
     }
 
-    /// Returns symbol `i`. Symbol 0 is nearest TDO.
+    /// Returns symbol `i`, which must exist. Symbol 0 is nearest TDO.
     pub fn at(&self, i: u32) -> Symbol
         requires { i < length self.now }
         ensures { slice_get self.now i ≡ Some result }

@@ -1,8 +1,8 @@
 // Single faults of a board.
 use crate::board::PinRef;
 
-/// The kind of a short, which decides the value that both nets of the short read: the And or the Or of their bits, or
-/// the bit of the net that dominates.
+/// The kind of a short, which decides the bit that the receivers of both nets read: the And or the Or of the nets'
+/// bits, or the bit of the net that dominates.
 #[derive(Clone, Copy)]
 pub enum Kind {
     And,
@@ -13,7 +13,9 @@ pub enum Kind {
     Second,
 }
 
-/// A single fault. The fields `net`, `a` and `b` are numbers of nets.
+/// A single fault. The fields `net`, `a` and `b` are numbers of nets. A stuck net has the bit `value`. If a receiver's
+/// pin is open, the receiver reads `value`. If an enabled driver's pin is open, its net has the value of its pull, or
+/// `value` if it is not pulled.
 #[derive(Clone, Copy)]
 pub enum Single {
     StuckNet { net: u32, value: bool },

@@ -1,5 +1,5 @@
-//! Laws of boards. Each function does nothing, and its contract is the law. A function whose proof needs a law calls
-//! that function.
+//! Laws of boards that keep the rules of boards. Each function does nothing, and its contract is the law. A function
+//! whose proof needs a law calls that function.
 ghost use Rattle.std.specs.Prelude.{◌≡◌, ℕ, ◌<◌, List, Some, slice_get};
 ghost use Rattle.board_defs.specs.declared.board.Ctl.{Ctl};
 ghost use Rattle.board_defs.specs.declared.board.RawBoard.{RawBoard};
@@ -11,14 +11,15 @@ pub fn safe_by_pairs()
     ensures { SafeByPairs }
 {}
 
-/// Tests of single controls and of pairs of controls decide what some safe setting can do.
+/// Tests of single controls and of pairs of controls decide the terms that ask for some safe setting: covered and
+/// paired nets, tested pins, useful controls, and the reasons why a net is not covered.
 pub fn terms_decided()
     ensures { TermsDecided }
 {}
 
 /// Every pass of a board is safe. Together the passes enable each tested driver. For every two paired nets, some pass
-/// observes both. Each pass enables a driver, or observes two nets at once, for the first time. The tests that choose
-/// the passes agree with the definitions of their terms.
+/// observes both. Each pass observes a net by some tested driver for the first time, or observes two paired nets
+/// together for the first time. The tests that choose the passes agree with the definitions of their terms.
 pub fn passes_kept()
     ensures { PassesKept }
 {}

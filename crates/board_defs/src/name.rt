@@ -10,7 +10,8 @@ use std::marker::Model;
 /// longer than this.
 const SHORT: usize = 24;
 
-// The bytes of a name. A short name has its bytes in the value itself: the first `length` of `bytes`. A long name has memory of its own.
+// The bytes of a name. A short name holds them in the value itself: they are the first `length` bytes of `bytes`. A
+// long name has memory of its own.
 #[derive(Debug, Drop)]
 enum Kept {
     Short { bytes: [u8; SHORT], length: u8 },

@@ -1,4 +1,4 @@
-// Questions about a board's pins, on the plain records.
+// Questions about the pins of a board or a device, asked of the plain records.
 ghost use Rattle.std.specs.Prelude.{◌≡◌, ◌≤◌, ◌^◌, ◌<◌, ◌&&◌, option_copied, option_and_then, length, slice_get};
 ghost use Rattle.std.specs.List.{list_any};
 ghost use Rattle.board_defs.specs.DeviceRules.{is_driving, is_reading, is_receiving, is_writing, is_loading, is_controlling, is_inner, may_receive, may_drive, is_linkage, bit_of, is_on, drives_bit, reads_bit, driving_entry};
@@ -33,8 +33,8 @@ impl Role {
         matches!(self, Role::Input | Role::Clock | Role::Bidir)
     }
 
-    /// Returns whether the function is one of a cell with an update latch: OUTPUT2, OUTPUT3, BIDIR, CONTROL, CONTROLR
-    /// or INTERNAL.
+    /// Returns whether an entry with this function is for its cell's update latch: OUTPUT2, OUTPUT3, BIDIR, CONTROL,
+    /// CONTROLR or INTERNAL.
     pub fn is_writing(self) -> bool
         ensures { result ≡ is_writing self }
     {
@@ -278,7 +278,8 @@ impl RawBoard {
         pins.iter().any(|pin| self.guards(pin))
     }
 
-    /// Returns whether the net is guarded. On a guarded net, only drivers that are always on may be enabled.
+    /// Returns whether the net is guarded: it carries a supply, or has a pin of a test access port, a pin that
+    /// compliance patterns name, or a dark pin. On a guarded net, only drivers that are always on may be enabled.
     pub fn is_guarded(&self, net: &Net) -> bool
         ensures { result ≡ guarded self.now net.now }
     {
@@ -340,7 +341,8 @@ impl RawBoard {
         }
     }
 
-    /// Returns whether the pin is a switching driver of the net.
+    /// Returns whether the pin is a switching driver of the net: its own cell enables it, and the net is unguarded and
+    /// is pulled to the cell's disable value.
     pub fn switches(&self, net: &Net, pin: &NetPin) -> bool
         ensures { result ≡ switches self.now net.now pin.now }
     {
@@ -353,7 +355,7 @@ impl RawBoard {
         }
     }
 
-    /// Returns whether the pin is a receiver.
+    /// Returns whether the pin is a receiver: its port bit has mode in or inout, and an INPUT, CLOCK or BIDIR entry.
     pub fn receives(&self, pin: &NetPin) -> bool
         ensures { result ≡ receives self.now pin.now }
     {

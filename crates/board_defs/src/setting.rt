@@ -74,7 +74,8 @@ fn comes_before(a: Ctl, b: Ctl) -> bool
     a.part < b.part || (a.part == b.part && a.cell < b.cell)
 }
 
-/// Returns the number of controls in the list that precede `c` in control order.
+/// Returns the number of controls in the list that precede `c` in control order. The list must be in control order and
+/// without repeats.
 fn place_of(controls: &[Ctl], c: Ctl) -> usize
     requires { IsInControlOrder controls.now }
     ensures place { result ≡ prefix_len (λ d. precedes d c) controls.now }
