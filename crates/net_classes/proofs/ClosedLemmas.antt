@@ -39,7 +39,6 @@ use Rattle.net_classes.proofs.ControlSetLemmas.{same_set}
 use Rattle.net_classes.proofs.Paired.{has_cells}
 use Rattle.net_classes.proofs.SharedLemmas.{driven_has}
 
--- control `c` has a driver on the net if and only if, by the facts about the net's pins, `c` enables the driver of some pin
 pub pins_drive : (board : RawBoard) (c : Ctl) (net : Option Net)
     → list_any (λ (pin : PinFacts). is_by c pin.drive) (pins_there board net)
     ≡ drives_there board c net
@@ -67,7 +66,6 @@ set_more board nets i n pins set less at e is = same_set board _ (drives_some bo
         ∙ ap (list_any drives)
         (ap (λ k. take i nets ++ k ∷ []) at ∙ sym (take_more nets i n less))
 
--- if a control enables a tested driver of a net, it drives the net
 pub tested_in : (board : RawBoard) (net : Net) (c : Ctl) → Has (tested_drivers board net) (By c) → drives_net board c net ≡ true
 tested_in board net c has =
     let t : Tested board net (By c) = tested_has board net (By c) has in
@@ -91,8 +89,6 @@ pub cells_there : (board : RawBoard) (net : Option Net) (d : Drive) → IsBoard 
 cells_there board None d rules h = absurd h
 cells_there board (Some net) d rules h = has_cells board net d rules h
 
--- if `set` is the set of the controls with a driver on one of `nets`, and `closed` has the nets that `closed_in` finds from `set`, then
--- `closed` has exactly the nets that `nets` closes
 pub closed_are : (known : KnownBoard) (set : ControlSet) (nets closed : List ℕ) → IsKnown known
     → IsSet known.board (drives_some known.board nets) set
     → closed ≡ closed_in known set set.members.items → AreClosed known.board nets closed
@@ -188,7 +184,6 @@ closed_are known set nets closed is in_set e n = (there, back)
     there : is_closed_by board nets n ≡ true → Contains closed n
     there h = has_contains closed n (by_net (slice_get board.nets n) refl h)
 
--- if no control satisfies the predicate, `are_by_some` is false for every list of drivers
 nobody : (ds : List Drive) → are_by_some (λ c. false) ds ≡ true → ⊥
 nobody [] h = cc h
 nobody (AlwaysOn ∷ ds) h = cc h

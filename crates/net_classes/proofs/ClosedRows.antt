@@ -27,7 +27,6 @@ use Rattle.net_classes.proofs.ContendedLemmas.{has_shares, share_has}
 use Rattle.net_classes.proofs.PairRowLemmas.{covered_bit}
 use Rattle.net_classes.proofs.WordLemmas.{same_row}
 
--- two different controls `c` and `d` share a net if and only if `d` has a driver on one of the nets that `c` shares
 shares : (board : RawBoard) (c d : Ctl) → same_ctl c d ≡ false → drives_some board (shared_nets board c) d ≡ share_net board c d
 shares board c d differ = same_truth (drives_some board (shared_nets board c) d) (share_net board c d) there back
   where
@@ -74,7 +73,6 @@ any_on : {X : Type 0} (p q : X → Bool) (xs : List X) → ((x : X) → Has xs x
 any_on p q [] h = refl
 any_on p q (x ∷ xs) h = ap (λ t. t || list_any p xs) (h x (inl refl)) ∙ ap (λ t. q x || t) (any_on p q xs (λ y k. h y (inr k)))
 
--- some driver satisfies `own` or fails `one`, if and only if it is not the case that all drivers satisfy `one` and none satisfies `own`
 each_kept : (own one : Drive → Bool) (ds : List Drive)
     → list_any (λ d. own d || not (one d)) ds ≡ not (list_all one ds && not (list_any own ds))
 each_kept own one [] = refl
@@ -106,7 +104,6 @@ all_kept own p (d ∷ ds) =
     let some : nat_lt 0 (length (d ∷ ds)) ≡ true = grind arith in
     each_kept own (is_by_one p) (d ∷ ds) ∙ sym (ap (λ t. t && not (are_by_some p (d ∷ ds) && not (list_any own (d ∷ ds)))) some)
 
--- a filtered list has the number `n` if and only if the list has `n` and the predicate `q` is true of `n`
 stands_filter : (q : ℕ → Bool) (xs : List ℕ) (n : ℕ) → stands_in (filter q xs) n ≡ (stands_in xs n && q n)
 stands_filter q xs n = same_truth (stands_in (filter q xs) n) (stands_in xs n && q n) there back
   where
@@ -139,7 +136,7 @@ can_there : (board : RawBoard) (net : Option Net) (d : Drive) → Has (drivers_t
 can_there board None d has = absurd has
 can_there board (Some net) d has = tested_can_drive board net d (tested_has board net d has)
 
--- If control `c` is safe alone, the nets that a safe setting with `c` observes are the covered nets without the closed nets on which `c`
+-- If control `c` is safe alone, the nets that safe settings with `c` observe are the covered nets without those in `closed` on which `c`
 -- has no tested driver.
 row_fits : (board : RawBoard) (c : Ctl) (closed : List ℕ) (n : ℕ) → is_safe_alone board c ≡ true
     → AreClosed board (shared_nets board c) closed →
@@ -173,7 +170,6 @@ none_fail board failing row e bits =
     (λ n. sym (and-true (fits_at board AlwaysOn n))
     ∙ sym (ap (λ v. fits_at board AlwaysOn n && not (stands_in v n)) e)) row bits
 
--- if a list of nets closes net number `n`, then `n` is less than the number of nets
 closed_within : (board : RawBoard) (nets : List ℕ) (n : ℕ) → is_closed_by board nets n ≡ true → n < length board.nets
 closed_within board nets n h = by_net (slice_get board.nets n) refl h
   where

@@ -1,4 +1,4 @@
--- Lemmas which say when two controls share a net, from the list of the nets that each control shares with other controls.
+-- Two different controls have drivers on one net if and only if their lists of shared nets have a number in common.
 use Rattle.std.proofs.Common.{◌≡◌, ℕ, ◌<◌, slice_index, Bool, true, false, ◌&&◌, List, length, Option, Some, None, refl, sym, ◌∙◌, ap, subst, arith}
 use Rattle.std.specs.Prelude.{slice_get}
 use Rattle.std.specs.List.{list_any, range_with_len}
@@ -22,7 +22,6 @@ use Rattle.net_facts.specs.Kept.{is_by_other, is_contended, contends_there, shar
 use Rattle.net_classes.proofs.SharedLemmas.{kept_ascend, item_has}
 use Rattle.net_facts.proofs.Contended.{differ_back}
 
--- if net `n` has a driver of control `c` and a driver of another control, `n` is in the list of the nets that `c` shares
 shares_has : (board : RawBoard) (c : Ctl) (n : ℕ) (net : Net) → slice_get board.nets n ≡ Some net
     → is_contended board c net ≡ true → Has (shared_nets board c) n
 shares_has board c n net e d =

@@ -1,4 +1,4 @@
--- Lemmas about sets of controls. A set is kept as marks and as a list.
+-- Lemmas about sets of controls, which have marks and a list of members.
 use Rattle.std.proofs.Common.{◌≡◌, inl, inr, Bool, true, false, ◌||◌, List, [], ◌∷◌, ◌++◌, map, Contains, Option, Some, None, refl, sym, ◌∙◌, ap, subst}
 use Rattle.std.specs.Prelude.{slice_get, option_map, option_and_then, is_some}
 use Rattle.std.proofs.Math.Bool.{or-false, or-true}
@@ -15,7 +15,6 @@ use Rattle.net_facts.specs.Cells.{filled_with, put, item_of_cell, table, at_cont
 use Rattle.net_classes.specs.inner.ControlSets.{IsSet, has_control, put_all}
 use Rattle.net_facts.proofs.Notes.{at_same, at_other}
 
--- if a table has an item for cell `c`, the table filled with `item` has `item` for `c`
 pub filled_item : {X Y : Type 0} (item : Y) (rows : List (List X)) (c : Ctl)
     → is_some (item_of_cell rows c) ≡ true → item_of_cell (filled_with item rows) c ≡ Some item
 filled_item {X} {Y} item rows c h =
@@ -46,7 +45,6 @@ same_set board p q set same is =
       members_are = λ c cell h. is.members_are c cell (same c ∙ h);
     }
 
--- if `item` is put in a table at control `c`, the table has `item` for `c` and the old item for each other control
 pub put_item : {X : Type 0} (c d : Ctl) (item before : X) (rows : List (List X))
     → item_of_cell rows d ≡ Some before
     → (same_ctl c d ≡ true → item_of_cell (at_control c (put item) rows) d ≡ Some item)
@@ -57,7 +55,6 @@ put_item c d item before rows h = (
   λ differ. at_other c d (put item) rows differ ∙ h,
 )
 
--- if the set of the controls that satisfy `passes` has `c`, it is also the set of the controls that satisfy `passes` or equal `c`
 pub had : (board : RawBoard) (passes : Ctl → Bool) (set : ControlSet) (c : Ctl)
     → IsSet board passes set → has_control set c ≡ true
     → IsSet board (λ d. passes d || same_ctl c d) set
@@ -73,7 +70,6 @@ had board passes set c is h = record {
         p ∙ sym (ap (λ s. s || same_ctl c d) p)
     by_same d cell false e = sym (or-false (passes d)) ∙ ap (λ s. passes d || s) (sym e)
 
--- after `c` is marked and listed, the set has `c` and the controls that satisfy `passes`
 pub added : (board : RawBoard) (passes : Ctl → Bool) (set after : ControlSet) (c : Ctl)
     → IsSet board passes set
     → table after.marks.items ≡ at_control c (put true) (table set.marks.items)
@@ -105,7 +101,6 @@ added board passes set after c is e f = record {
         (has_right set.members.items (c ∷ []) d (inl (same_equal c d g)))
     by_member d cell false k false g p = cc p
 
--- if each marked control is listed, then after the marks of all listed controls are cleared, control `d` is not marked
 off : (members : List Ctl) (rows : List (List Bool)) (d : Ctl) (t : Bool)
     → item_of_cell rows d ≡ Some t → (t ≡ true → Has members d)
     → item_of_cell (put_all false rows members) d ≡ Some false

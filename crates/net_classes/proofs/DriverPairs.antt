@@ -1,5 +1,4 @@
--- Lemmas which say that two nets are paired if and only if `first_pair` finds a tested driver of each net such that one safe setting
--- enables both drivers.
+-- `first_pair` finds a tested driver of each of two nets if and only if one safe setting observes both nets.
 use Rattle.std.proofs.Common.{◌≡◌, ℕ, Bool, true, List, [], Option, Some, None, refl, sym, ◌∙◌}
 use Rattle.std.specs.Prelude.{slice_get, find, is_some}
 use Rattle.std.proofs.lemmas.Bool.{false_from_ne_true}
@@ -14,7 +13,6 @@ use Rattle.net_classes.specs.Pairs.{drivers_at, drivers_there, fit, fits_some, p
 use Rattle.net_classes.specs.inner.Pairs.{some_fit}
 use Rattle.net_classes.proofs.Paired.{pairs_are}
 
--- one safe setting enables a driver of each list if and only if `first_pair` finds two such drivers
 pub fit_found : (board : RawBoard) (ds es : List Drive) → some_fit board ds es ≡ is_some (first_pair board ds es)
 fit_found board ds es = by_found (first_pair board ds es) refl
   where

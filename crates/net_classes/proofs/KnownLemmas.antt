@@ -1,4 +1,4 @@
--- Lemmas about the facts of a board from which the rows of its nets are made.
+-- Lemmas about the facts that `Known` has about a board.
 use Rattle.std.proofs.Common.{◌≡◌, ℕ, ◌<◌, List, map, length, get_or, Option, Some, None, sym, ◌∙◌, ap}
 use Rattle.std.specs.Prelude.{slice_get, option_map}
 use Rattle.std.proofs.lemmas.Option.{slice_get-get_or, slice_get-map}

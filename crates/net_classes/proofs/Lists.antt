@@ -4,7 +4,6 @@ use Rattle.std.specs.List.{range_with_len}
 use Rattle.std.proofs.lemmas.List.{length-map}
 use Rattle.std.proofs.lemmas.List.FromFn.{length-range_with_len, get_or-map-range_with_len}
 
--- if a list has an item for each number below `n`, a number below `n` is below the length of the list
 pub numbered_length : {X : Type 0} (f : ℕ → X) (xs : List X) (n i : ℕ) → xs ≡ map f (range_with_len 0 n) → i < n → i < length xs
 numbered_length f xs n i e h =
     let l : length xs

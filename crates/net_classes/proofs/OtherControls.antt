@@ -1,5 +1,5 @@
--- Lemmas about the controls that have a driver on some nets. These controls are kept in two sets: those with a driver on one chosen net,
--- and the others.
+-- Lemmas about the controls that have a driver on a net of a given list. Two sets contain them: one has the controls with a driver on one
+-- chosen net of the list, and the other has the rest.
 use Rattle.std.proofs.Common.{◌≡◌, ◌⊎◌, inl, inr, ℕ, ◌+◌, ◌<◌, Bool, true, false, not, ◌&&◌, ◌||◌, List, [], ◌∷◌, ◌++◌, Contains, length, get_or, nat_lt, take, Option, Some, None, refl, sym, ◌∙◌, ap, subst, arith}
 use Rattle.std.specs.Prelude.{slice_get}
 use Rattle.std.specs.List.{flat_map, list_all, list_any}
@@ -31,7 +31,6 @@ use Rattle.net_classes.proofs.ClosedLemmas.{all_on, cells_there, pins_drive, tes
 use Rattle.net_classes.proofs.ControlSetLemmas.{same_set}
 use Rattle.net_classes.proofs.SharedLemmas.{driven_has}
 
--- if `t` says whether `set` has control `c`, then for each control `d` that equals `c`, `t` also says whether `set` has `d`
 same_outside : (set : ControlSet) (c d : Ctl) (t : Bool) → has_control set c ≡ t
     → (same_ctl c d && not t) ≡ (same_ctl c d && not (has_control set d))
 same_outside set c d t e = by (same_ctl c d) refl
@@ -53,8 +52,6 @@ inside board passes others set c e is = same_set board passes (λ d. passes d ||
     same : (d : Ctl) → passes d ≡ (passes d || (same_ctl c d && not (has_control set d)))
     same d = nothing (passes d) (same_ctl c d) ∙ ap (λ t. passes d || t) (same_outside set c d true e)
 
--- If `after` is the set of the controls that satisfy `passes` or equal `c`, and `set` does not have `c`, then `after` is also the set of
--- the controls that satisfy `passes`, or that equal `c` and are not in `set`.
 pub outside : (board : RawBoard) (passes : Ctl → Bool) (after set : ControlSet) (c : Ctl)
     → has_control set c ≡ false → IsSet board (λ d. passes d || same_ctl c d) after
     → IsSet board (λ d. passes d || (same_ctl c d && not (has_control set d))) after
@@ -72,8 +69,6 @@ outside board passes after set c e is =
 pub no_others : (board : RawBoard) (set others : ControlSet) → IsSet board (λ c. false) others → AreOthers board set [] others
 no_others board set others is = record { passes = λ c. false; are_set = is; drive = λ c h. cc h; all = λ c cell h unset. cc h }
 
--- a control has a driver on one of the first `i + 1` nets if and only if it has a driver on one of the first `i` nets, or on the net `n` at
--- place `i`
 drives_more : (board : RawBoard) (nets : List ℕ) (i n : ℕ) (c : Ctl) → i < length nets
     → n ≡ get_or nets i n
     → drives_some board (take (i + 1) nets) c
@@ -176,7 +171,6 @@ others_more board set others after nets i n pins less at e are is = record {
         or_right (are.passes c) (list_any (λ pin. is_by c pin.drive && not (has_control set c)) pins)
         (pins_are c ∙ and_from (there c) (not (has_control set c)) (true_of_or_false (there c) h) (ap not unset))
 
--- if not all drivers satisfy `p`, some driver in the list does not satisfy `p`
 some_fails : (p : Drive → Bool) (ds : List Drive) → list_all p ds ≡ false → (d : Drive) × Has ds d × (p d ≡ false)
 some_fails p [] h = cc h
 some_fails p (d ∷ ds) h = by (some_fails p ds) (p d) refl

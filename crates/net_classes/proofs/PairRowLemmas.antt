@@ -20,7 +20,6 @@ use Rattle.net_classes.specs.Pairs.{drivers_at, drivers_there, fits_at, fit}
 use Rattle.net_classes.specs.NetRows.{AreRowBits, stands_in}
 use Rattle.net_classes.proofs.WordLemmas.{same_row}
 
--- if a row has the numbers that satisfy `passes`, it also has those that satisfy `passes` and are not in the empty list
 pub nothing_out : (passes : ℕ → Bool) (row less : List ℕ) → less ≡ row → AreRowBits passes row
     → AreRowBits (λ n. passes n && not (stands_in [] n)) less
 nothing_out passes row less e are =
@@ -81,7 +80,6 @@ covered_bit board n = by_net (slice_get board.nets n)
     by_net None = refl
     by_net (Some net) = by_drivers net (tested_drivers board net) refl
 
--- no number is below 0, so `n` is not a number below 0 that satisfies `passes`
 pub none_below : (passes : ℕ → Bool) (n : ℕ) → false ≡ (nat_lt n 0 && passes n)
 none_below passes n = let least : nat_lt n 0 ≡ false = grind arith in sym (ap (λ t. t && passes n) least)
 

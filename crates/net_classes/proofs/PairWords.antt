@@ -1,4 +1,4 @@
--- Lemmas about the words of the rows of a net's tested drivers. Together, the words say which nets are paired with the net.
+-- Lemmas about the rows of a net's tested drivers. Together, their words say which nets are paired with the net.
 use Rattle.std.proofs.Common.{◌≡◌, ℕ, ◌+◌, ◌<◌, ◌≤◌, true, false, ◌||◌, List, [], ◌∷◌, ◌++◌, length, take, get_or, Option, None, Some, refl, sym, ◌∙◌, ap, subst}
 use Rattle.std.specs.Prelude.{slice_get}
 use Rattle.std.specs.List.{list_any}
@@ -28,7 +28,6 @@ use Rattle.net_facts.proofs.Marks.{useful_is}
 use Rattle.net_classes.proofs.Paired.{has_cells}
 use Rattle.net_classes.proofs.WordLemmas.{either_word, same_word}
 
--- the control of a tested driver is useful
 tested_useful : (board : RawBoard) (n : ℕ) (net : Net) (c : Ctl) → slice_get board.nets n ≡ Some net
     → Has (tested_drivers board net) (By c) → is_useful board c ≡ true
 tested_useful board n net c at has =
@@ -37,7 +36,6 @@ tested_useful board n net c at has =
     board.nets n net at
     (has_any (λ d. is_by c (Some d)) (tested_drivers board net) (By c) has (same_refl c))
 
--- word `w` of the row of tested driver `d` has a 1 for each net on which a safe setting with `d` enables a tested driver
 pub driver_word : (board : RawBoard) (pairs : PairRows) (n w : ℕ) (d : Drive) → IsBoard board
     → ArePairRows board pairs → Has (drivers_at board n) d
     → AreWordBits (fits_at board d) w (drive_word pairs d w)

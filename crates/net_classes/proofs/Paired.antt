@@ -1,4 +1,4 @@
--- Lemmas which say that two nets are paired if one safe setting enables a tested driver of each.
+-- Two nets are paired if and only if one safe setting enables a tested driver of each.
 use Rattle.std.proofs.Common.{◌≡◌, Bool, true, ◌&&◌, length, Option, Some, None, sym, ◌∙◌, ap}
 use Rattle.std.specs.Prelude.{slice_get}
 use Rattle.std.specs.List.{list_any}

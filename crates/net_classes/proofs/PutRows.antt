@@ -1,4 +1,4 @@
--- Lemmas about the rows of a board after the row of one more control is added.
+-- Lemmas about adding the row of one more control to the rows of a board.
 use Rattle.std.proofs.Common.{◌≡◌, ◌⊎◌, inl, inr, ℕ, ◌+◌, ◌<◌, ◌≤◌, Bool, true, false, List, [], ◌∷◌, ◌++◌, length, take, get_or, Option, Some, None, refl, sym, ◌∙◌, ap, subst, arith, length-append}
 use Rattle.std.specs.Prelude.{is_some, option_map, slice_index_or}
 use Rattle.std.specs.Option.{option_to_list}
@@ -22,7 +22,6 @@ use Rattle.net_classes.specs.Pairs.{fits_at}
 use Rattle.net_classes.specs.Kept.{row_number, or_none, row_in}
 use Rattle.net_facts.proofs.Notes.{at_same, at_other}
 
--- if rows are appended, row number `k` of the earlier rows stays the same
 row_stays : (before after : PairRows) (k : ℕ) (more : List (List ℕ)) → k < length before.rows.items
     → after.rows.items ≡ before.rows.items ++ more → row_in after k ≡ row_in before k
 row_stays before after k more less e = ap (λ v. slice_index_or v k []) e ∙ get_or_append_left before.rows.items more [] k less
@@ -114,8 +113,7 @@ adds_row board before after c number row has cell for_c e f g = record {
               (subst (AreRowBits (fits_at board (By c))) (sym row) is);
         }
 
--- If each of the first `i` useful controls has its row in `before`, and `after` adds the row of useful control number `i`, then each of the
--- first `i + 1` useful controls has its row in `after`.
+-- a step of the loop over the useful controls: it adds the row of control number `i` and preserves the rows of the controls before it
 pub rows_more : (board : RawBoard) (before after : PairRows) (useful : List Ctl) (i : ℕ) (c d : Ctl)
     → i < length useful → c ≡ get_or useful i c → AddsRow board before after c
     → ((d : Ctl) → Has (take i useful) d → IsRowOf board before d) → Has (take (i + 1) useful) d
@@ -133,7 +131,6 @@ rows_more board before after useful i c d less at adds rows has =
     by_place (inr (inl same)) = let P : Ctl → Type 0 = λ v. IsRowOf board after v in subst P (at ∙ same) adds.own
     by_place (inr (inr none)) = absurd none
 
--- if `i` is at least the number of useful controls, the first `i` useful controls contain each useful control
 pub listed : (board : RawBoard) (useful : List Ctl) (i : ℕ) (c : Ctl)
     → useful ≡ useful_controls board → length useful ≤ i → holds (useful_controls board) c ≡ true
     → Has (take i useful) c

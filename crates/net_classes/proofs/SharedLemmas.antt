@@ -70,7 +70,6 @@ share_decided board a b = (there, back)
     back : (n : ℕ) × Contains (driven_nets board a) n × Contains (driven_nets board b) n → share_net board a b ≡ true
     back (n, x, y) = has_share board a b n (contains_has (driven_nets board a) n x) (contains_has (driven_nets board b) n y)
 
--- the item at a place of a list is in the list
 pub item_has : (xs : List ℕ) (i : ℕ) → i < length xs → Has xs (slice_index xs i)
 item_has xs i h = has_at xs i (slice_index xs i) (slice_get-get_or xs i 0 h)
 

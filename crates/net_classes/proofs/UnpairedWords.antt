@@ -1,4 +1,4 @@
--- Lemmas about words that have the covered nets that are not paired with a given net.
+-- Lemmas about words whose bits say which covered nets are not paired with a given net.
 use Rattle.std.proofs.Common.{◌≡◌, ℕ, ◌+◌, ◌*◌, ◌/◌, ◌%◌, ◌-◌, ◌^◌, ◌<◌, Bool, true, false, not, ◌&&◌, List, get_or, length, min, Option, Some, None, refl, sym, ◌∙◌, ap, subst, arith, cond}
 use Rattle.std.specs.Prelude.{slice_get}
 use Rattle.std.specs.List.{list_any}
@@ -52,8 +52,8 @@ covered_says board n = by_net (slice_get board.nets n)
     by_net None = refl
     by_net (Some net) = sym (covered_fits board net)
 
--- If the bits of the nets that are paired with net `n` are cleared in a word of the row of the covered nets, the result has the covered
--- nets that are not paired with net `n`.
+-- The word of the covered nets, with the bits of the nets that are paired with net `n` cleared, has the covered nets that are not paired
+-- with net `n`.
 pub unpaired_bits : (board : RawBoard) (pairs : PairRows) (n w word other : ℕ)
     → ArePairRows board pairs → word ≡ drive_word pairs AlwaysOn w → other < 2 ^ 64
     → AreWordBits (pairs_with board n) w other

@@ -1,4 +1,4 @@
--- Lemmas which say that each control of a tested driver is useful.
+-- Each control of a tested driver is useful.
 use Rattle.std.proofs.Common.{◌≡◌, ℕ, true, not, ◌&&◌, List, [], get_or, Option, Some, None, refl, sym, ◌∙◌, ap, subst}
 use Rattle.std.specs.Prelude.{slice_get, All, Contains}
 use Rattle.std.proofs.lemmas.Bool.{and_parts}
@@ -16,7 +16,6 @@ use Rattle.board_defs.specs.Laws.{PassesAre, DecidesTerms, HasTestedDriver}
 use Rattle.net_classes.specs.Pairs.{drivers_at, drivers_there}
 use Rattle.net_classes.specs.inner.Pairs.{IsUsefulDriver}
 
--- if a tested driver of net `n` has a control, this control is among the useful controls
 net_useful : (board : RawBoard) (n : ℕ) (net : Net) (drivers : List Drive) → PassesAre board
     → DecidesTerms board → slice_get board.nets n ≡ Some net → drivers ≡ tested_drivers board net
     → All (IsUsefulDriver board) drivers

@@ -9,14 +9,12 @@ use Rattle.std.proofs.lemmas.List.{get_or-set_other, get_or-set_same}
 use Rattle.net_classes.specs.NetRows.{AreRowBits}
 use Rattle.net_classes.specs.Pairs.{AreWordBits}
 
--- if no number satisfies the predicate, the word is 0
 pub no_word : (w : ℕ) → AreWordBits (λ n. false) w 0
 no_word w i less = bit_at-zero i
 
 pub same_word : (p q : ℕ → Bool) → ((n : ℕ) → p n ≡ q n) → (w word : ℕ) → AreWordBits p w word → AreWordBits q w word
 same_word p q same w word are i less = are i less ∙ ap (λ t. cond t 1 0) (same (64 * w + i))
 
--- the bitwise OR of a word for `p` and a word for `q` is the word for the numbers that satisfy `p` or `q`
 pub either_word : (p q : ℕ → Bool) (w x y : ℕ) → AreWordBits p w x → AreWordBits q w y → AreWordBits (λ n. p n || q n) w (bit_or x y)
 either_word p q w x y first second i less =
     bit_at_or x y i ∙ ap (λ k. max k (bit_at y i)) (first i less)
@@ -40,8 +38,6 @@ no_words (suc count) (suc w) = no_words count w
 pub blank_bits : (count : ℕ) → AreRowBits (λ n. false) (replicate count 0)
 blank_bits count w i less = ap (λ word. bit_at word i) (no_words count w) ∙ bit_at-zero i
 
--- if the bit of number `n` is set to `after n`, and `after` equals `before` for every other number, the row has the numbers that satisfy
--- `after`
 pub row_put : (before after : ℕ → Bool) (row : List ℕ) (n word : ℕ) → AreRowBits before row
     → n / 64 < length row → bit_at word (n % 64) ≡ cond (after n) 1 0
     → ((i : ℕ) → i < 64 → i ≢ n % 64 → bit_at word i ≡ bit_at (slice_index row (n / 64)) i)

@@ -1,5 +1,4 @@
--- The contents of a board's classes. A fact that depends on safe settings is the result of the function that decides it, such as
--- `is_useful`.
+-- The contents of a board's classes. Facts that depend on safe settings are the results of Boolean tests such as `is_useful`.
 use Rattle.std.specs.Prelude.{◌≡◌, ℕ, true, List, [], map, Option, Some, None, slice_index_or}
 use Rattle.board_defs.specs.declared.board.Ctl.{Ctl}
 use Rattle.board_defs.specs.declared.board.RawBoard.{RawBoard}
@@ -18,7 +17,7 @@ abbrev pub or_none : Option ℕ → ℕ
 or_none None = 0
 or_none (Some n) = n
 
--- the number of the row of control `c`
+-- the number of the row of control `c`, or 0 if the table has no number for `c`
 abbrev pub row_number : PairRows → Ctl → ℕ
 row_number pairs c = or_none (item_of_cell (table pairs.numbers.items) c)
 
@@ -31,7 +30,7 @@ pub record ArePairRows (board : RawBoard) (pairs : PairRows) : Type 0 where
   pub covered : AreRowBits (fits_at board AlwaysOn) (row_in pairs 0)
   pub each : (c : Ctl) → IsCell board c → is_useful board c ≡ true → AreRowBits (fits_at board (By c)) (row_in pairs (row_number pairs c))
 
--- `classes` has the classes of the board
+-- `classes` are the classes of the board
 pub record AreClasses (board : RawBoard) (classes : Classes) : Type 0 where
   pub nets_are : classes.nets.items ≡ map (net_class_of board) board.nets
   pub controls_are : (c : Ctl) → IsCell board c → item_of_cell (table classes.controls.items) c ≡ Some (control_class_of board c)

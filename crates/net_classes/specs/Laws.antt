@@ -1,4 +1,4 @@
--- The laws of boards, stated for one board, and laws about the lists of driven nets and about the drivers of paired nets.
+-- The laws of boards, stated for one board, and two laws about classes.
 use Rattle.std.specs.Prelude.{◌≡◌, ℕ, false, List, Contains, is_some}
 use Rattle.std.specs.Bool.{Decides}
 use Rattle.board_defs.specs.declared.board.Ctl.{Ctl}
@@ -21,8 +21,9 @@ pub record KeepsLaws (board : RawBoard) : Type 0 where
 abbrev pub HaveCommon : List ℕ → List ℕ → Type 0
 HaveCommon xs ys = (n : ℕ) × Contains xs n × Contains ys n
 
--- Two controls control drivers of one net if and only if the lists of their driven nets have a number in common. For two different
--- controls, this is also true of the lists of their shared nets.
+-- Two controls have drivers on one net if and only if their lists of driven nets have a number in common. For two different controls, the
+-- same is true of their lists of shared nets. The driven nets of a control are the nets with a driver that it enables. The shared nets
+-- are those of them that also have a driver of another control.
 pub record SaysShared (board : RawBoard) (a b : Ctl) : Type 0 where
   pub by_driven : Decides (share_net board a b) (HaveCommon (driven_nets board a) (driven_nets board b))
   pub by_shared : same_ctl a b ≡ false → Decides (share_net board a b) (HaveCommon (shared_nets board a) (shared_nets board b))
@@ -30,7 +31,7 @@ pub record SaysShared (board : RawBoard) (a b : Ctl) : Type 0 where
 abbrev pub NetsAreShared : Type 0
 NetsAreShared = (board : RawBoard) (a b : Ctl) → SaysShared board a b
 
--- two nets, given by their numbers, are paired if and only if one safe setting enables a tested driver of each
+-- `first_pair` finds a tested driver of net `a` and one of net `b` if and only if one safe setting observes both nets.
 abbrev pub PairsHaveDrivers : Type 0
 PairsHaveDrivers =
     (board : RawBoard) (a b : ℕ)

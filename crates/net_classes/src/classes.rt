@@ -10,8 +10,9 @@ use net_facts::{BoardFacts, ControlClass, NetClass, NetNumbers, board_facts};
 use net_pins::{BoardPins, PinTables};
 use std::alloc::{AllocError, Global};
 
-/// The classes of a board: its nets, the cells of its parts as controls, the useful controls, the nets that each
-/// control shares with another control, and the rows of bits that say which nets are paired.
+/// The classes of a board: what its nets, pins and controls can do in safe settings. There is a class for each net and
+/// for each cell as a control. Beside them are the useful controls, the nets that each control shares with another
+/// control, and the rows of bits that say which nets are paired.
 #[derive(Drop)]
 pub struct Classes {
     pub(crate) nets: Vec<NetClass>,
@@ -21,7 +22,7 @@ pub struct Classes {
     pub(crate) pairs: PairRows,
 }
 
-/// Makes the classes of the board from its pin tables.
+/// Returns the classes of the board. The pin tables must be those of the board.
 pub fn classify_by(alloc: Global, board: &Board, tables: &PinTables) -> Result<Classes, AllocError>
     requires { ArePinTables board.now tables.now }
     ensures { IfOk result (λ classes. AreClasses board.now classes) }
@@ -44,7 +45,7 @@ pub fn classify_by(alloc: Global, board: &Board, tables: &PinTables) -> Result<C
     })
 }
 
-/// Makes the classes of the board.
+/// Returns the classes of the board.
 pub fn classify(alloc: Global, board: &Board) -> Result<Classes, AllocError>
     ensures { IfOk result (λ classes. AreClasses board.now classes) }
 {

@@ -171,8 +171,8 @@ fn add_closed_by(
     Ok(())
 }
 
-/// Returns `closed`, the nets that `set` closes, followed by the nets with a driver of a control in `others` on which each tested driver
-/// has a control in one of the two sets.
+/// Returns the nets in `closed`, followed by the covered nets that have a driver of a control in `others` and on which
+/// each tested driver has a control in one of the two sets.
 fn closed_by_both(
     alloc: Global,
     closed: &[u32],
@@ -192,7 +192,7 @@ fn closed_by_both(
     Ok(nets)
 }
 
-/// Returns one of the nets with the most pins.
+/// Returns a net with the largest number of pins among `nets`, which must not be empty.
 fn core_of(known: &Known<'_>, nets: &[u32]) -> u32
     requires { 0 < length nets.now }
     ensures { Contains nets.now result }
@@ -255,7 +255,8 @@ fn closed_nets(
     Ok(closed)
 }
 
-/// The nets that the list `by` closes. They are kept for the next call, since many controls share the same nets or share a bus.
+/// The nets that the list `by` closes. They are kept for the next call, since many controls share the same nets or are
+/// on one bus.
 #[derive(Drop)]
 pub struct ClosedNets {
     pub(crate) by: NetNumbers,
@@ -278,8 +279,8 @@ impl ClosedNets {
         })
     }
 
-    /// Returns the nets that `nets` closes. If one of `nets` is a bus with most of the controls, the nets that the bus closes are kept for
-    /// the next call.
+    /// Returns the nets that `nets` closes. `nets` must not be empty. If one of `nets` is a bus with most of the
+    /// controls, `self` then has the nets that the bus closes, and the next call can use them.
     pub fn closed_by(
         &mut self,
         alloc: Global,
@@ -320,7 +321,7 @@ impl ClosedNets {
         copy_of(alloc, self.nets.as_slice())
     }
 
-    /// Finds and keeps the nets that `nets` closes, unless they are kept already.
+    /// Makes `self` the nets that `nets` closes. Does nothing if `self` has them already.
     fn turn_to(&mut self, alloc: Global, known: &Known<'_>, nets: &[u32]) -> Result<(), AllocError>
         requires closed { AreClosedNets known.now.board self.old }
         ensures closed { OnOk result (AreClosedNets known.now.board self.new) }

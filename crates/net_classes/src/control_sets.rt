@@ -1,4 +1,4 @@
-// Sets of controls that are filled and emptied many times.
+// Sets of controls. The time that `clear` takes depends only on the number of controls in the set.
 ghost use Rattle.std.specs.Prelude.{◌≡◌, ◌||◌, Bool, false, is_some, true, IfOk, OnOk};
 ghost use Rattle.board_defs.specs.declared.board.Ctl.{Ctl};
 ghost use Rattle.board_defs.specs.declared.board.RawBoard.{RawBoard};

@@ -1,4 +1,4 @@
-// The facts about a board from which its rows of bits are made.
+// The facts about a board from which `pair_rows` makes its rows of bits.
 ghost use Rattle.std.specs.Prelude.{◌≡◌, true, is_some, length, map, slice_get, IfOk};
 ghost use Rattle.board_defs.specs.declared.board.Ctl.{Ctl};
 ghost use Rattle.board_defs.specs.declared.board.RawBoard.{RawBoard};
@@ -59,7 +59,7 @@ fn first_drivers(alloc: Global, nets: &[NetClass]) -> Result<Vec<Option<Drive>>,
     Ok(firsts)
 }
 
-/// Returns how the tested drivers of the net are enabled. Past the last net there are no drivers.
+/// Returns how the tested drivers of the net are enabled. There are none if no net has this number.
 pub fn drivers_in(nets: &[NetClass], net: usize) -> &[Drive]
     ensures { (board : RawBoard) → nets.now ≡ map (net_class_of board) board.nets →
         result.now ≡ drivers_at board net }
@@ -88,7 +88,8 @@ impl<'a> Known<'a> {
         })
     }
 
-    /// Does nothing. Its contract says that the board keeps the rules, and that the table has the class of each control.
+    /// Does nothing. Its contract says that the board keeps the rules of boards, and that the table has the class of
+    /// each control.
     pub fn laws(&self)
         ensures { IsKnown self.now }
     {
@@ -124,7 +125,7 @@ impl<'a> Known<'a> {
         drivers_in(&self.facts.nets, net as usize)
     }
 
-    /// Returns the facts about the pins of the net.
+    /// Returns the facts about the pins of the net. There are none if no net has this number.
     pub fn pins(&self, net: u32) -> &[PinFacts]
         ensures { result.now ≡ pins_there self.now.board (slice_get self.now.board.nets net) }
     {
@@ -134,7 +135,7 @@ impl<'a> Known<'a> {
         }
     }
 
-    /// Returns the nets with a driver of the control.
+    /// Returns the numbers of the nets with a driver of the control. There are none if the table has no such control.
     pub fn driven(&self, c: Ctl) -> &[u32]
         ensures { result.now ≡ driven_in self.now c }
     {
@@ -147,7 +148,8 @@ impl<'a> Known<'a> {
         }
     }
 
-    /// Returns the nets that the control shares with another control.
+    /// Returns the numbers of the nets that the control shares with another control. The control must be a boundary
+    /// cell of the board.
     pub fn shared(&self, c: Ctl) -> &[u32]
         requires { IsCell self.now.board c }
         ensures { result.now ≡ shared_nets self.now.board c }

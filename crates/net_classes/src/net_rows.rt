@@ -46,7 +46,7 @@ impl NetRow {
         }
     }
 
-    /// Sets the bit of the net if `on` is true, and clears it if not.
+    /// Sets the bit of the net if `on` is true, and clears it if not. The row must have a bit for the net.
     pub(crate) fn put(&mut self, net: u32, on: bool)
         requires { net / 64 < length self.old }
         ensures bits { (before after : ℕ → Bool) → AreRowBits before self.old → after net ≡ on

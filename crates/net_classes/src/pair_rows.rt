@@ -49,8 +49,8 @@ impl PairRows {
         }
     }
 
-    /// Returns one word of the row of driver `d`. The row has the nets with a tested driver that some safe setting
-    /// enables together with `d`.
+    /// Returns word number `word` of the row of driver `d`. The row has the nets with a tested driver that some safe
+    /// setting enables together with `d`.
     pub(crate) fn word(&self, d: Drive, word: usize) -> u64
         ensures { result ≡ drive_word self.now d word }
     {
@@ -97,7 +97,7 @@ fn failing_nets(
     Ok(failing)
 }
 
-/// Returns a copy of the row without these nets.
+/// Returns a copy of the row with the bits of these nets cleared. The row must have a bit for each of them.
 fn row_without(row: &NetRow, nets: &[u32]) -> Result<NetRow, AllocError>
     requires { All (λ n. n / 64 < length row.now) nets.now }
     ensures { IfOk result
@@ -123,8 +123,8 @@ fn covered_row(alloc: Global, known: &Known<'_>) -> Result<NetRow, AllocError>
     Ok(row)
 }
 
-/// Returns the row of a useful control, or None if that row is the row of the covered nets. `closed` has the nets that
-/// the control's shared nets close.
+/// Returns the row of a useful control, or None if that row is the row of the covered nets. `closed` must have the nets
+/// that the control's shared nets close.
 fn row_for(
     alloc: Global,
     known: &Known<'_>,

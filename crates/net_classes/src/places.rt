@@ -11,7 +11,7 @@ fn comes_before(a: Ctl, b: Ctl) -> bool
     a.part < b.part || (a.part == b.part && a.cell < b.cell)
 }
 
-/// Returns the number of controls that come before `c`.
+/// Returns the number of controls that come before `c`. The list must be in control order.
 fn count_before(controls: &[Ctl], c: Ctl) -> usize
     requires { IsInControlOrder controls.now }
     ensures { result ≡ prefix_len (λ d. precedes d c) controls.now }

@@ -56,7 +56,7 @@ impl<'a> BoardClasses<'a> {
         BoardClasses { board, classes }
     }
 
-    /// Returns the record of the board. The record keeps the rules of a board.
+    /// Returns the record of the board, which keeps the rules of boards.
     pub fn raw(&self) -> &'a RawBoard
         ensures value { result.now ≡ self.now }
         ensures rules { IsBoard self.now }
@@ -81,7 +81,7 @@ impl<'a> BoardClasses<'a> {
         self.raw().nets.as_slice().len()
     }
 
-    /// Returns the class of the control.
+    /// Returns the class of the control, which must be a boundary cell of the board.
     fn control(&self, c: Ctl) -> &'a ControlClass
         requires { IsCell self.now c }
         ensures { result.now ≡ control_class_of self.now c }
@@ -89,7 +89,7 @@ impl<'a> BoardClasses<'a> {
         &self.classes.controls[c.part as usize][c.cell as usize]
     }
 
-    /// Returns the class of the net.
+    /// Returns the class of the net, which must be on the board.
     fn net(&self, net: u32) -> &'a NetClass
         requires { net < length self.now.nets }
         ensures { HoldsOfNet self.now net (λ found. result.now ≡ net_class_of self.now found) }
@@ -97,7 +97,8 @@ impl<'a> BoardClasses<'a> {
         &self.classes.nets[net as usize]
     }
 
-    /// Returns what the pin is on its net, and whether some safe setting tests it.
+    /// Returns the roles of the pin on its net, and the roles in which some safe setting tests it. The pin must be on
+    /// the board.
     pub fn pin(&self, pin: PinRef) -> PinClass
         requires { IsOnBoard self.now pin }
         ensures { HoldsOfNet self.now pin.net
@@ -106,7 +107,8 @@ impl<'a> BoardClasses<'a> {
         self.net(pin.net).pins.as_slice()[pin.place as usize]
     }
 
-    /// Returns the first reason why the net is not covered, or None if it is covered.
+    /// Returns the first reason why the net is not covered, or None if it is covered. The board must have a net with this
+    /// number.
     pub fn reason(&self, net: u32) -> Option<Reason>
         requires { net < length self.now.nets }
         ensures { HoldsOfNet self.now net (λ found. result ≡ reason_of self.now found) }
@@ -114,7 +116,7 @@ impl<'a> BoardClasses<'a> {
         self.net(net).reason
     }
 
-    /// Returns whether the net is covered.
+    /// Returns whether the net is covered. The board must have a net with this number.
     pub fn is_covered(&self, net: u32) -> bool
         requires { net < length self.now.nets }
         ensures { HoldsOfNet self.now net (λ found. result ≡ is_covered self.now found) }
@@ -122,7 +124,7 @@ impl<'a> BoardClasses<'a> {
         self.reason(net).is_none()
     }
 
-    /// Returns how the tested drivers of the net are enabled, in pin order. Past the last net there are no drivers.
+    /// Returns how the tested drivers of the net are enabled, in pin order. There are none if no net has this number.
     pub fn tested_drivers(&self, net: usize) -> &'a [Drive]
         ensures drivers { result.now ≡ drivers_at self.now net }
         ensures useful { All (IsUsefulDriver self.now) result.now }
@@ -148,7 +150,8 @@ impl<'a> BoardClasses<'a> {
         place_in(self.useful(), c)
     }
 
-    /// Returns the numbers of the nets with a driver of this control and a driver of another control, in net order.
+    /// Returns the numbers of the nets with a driver of this control and a driver of another control, in net order. The
+    /// control must be a boundary cell of the board.
     pub fn shared_nets(&self, c: Ctl) -> &'a [u32]
         requires { IsCell self.now c }
         ensures { result.now ≡ shared_nets self.now c }
@@ -177,7 +180,7 @@ impl<'a> BoardClasses<'a> {
         first && second && self.are_apart(a, b)
     }
 
-    /// Returns whether one safe setting enables both drivers.
+    /// Returns whether one safe setting enables both drivers. Their controls must be boundary cells of the board.
     pub fn fit(&self, d: Drive, e: Drive) -> bool
         requires first { IsByCell self.now d }
         requires second { IsByCell self.now e }
@@ -230,8 +233,9 @@ impl<'a> BoardClasses<'a> {
     }
 }
 
-// The six queries that this crate offers to any caller with a board and its classes. Each contract also says what
-// the answer means over all safe settings. The crates above use `BoardClasses` and call none of the six.
+// Six questions for callers that have a board and its classes. In each call, the classes must be those of the board,
+// and the board must have the nets, pins and cells that the call names. Each contract also says what the answer means
+// over all safe settings. The crates above use `BoardClasses` and call none of these functions.
 impl Classes {
     /// Returns the first reason why the net is not covered, or None if it is covered.
     pub fn reason(&self, board: &Board, net: u32) -> Option<Reason>

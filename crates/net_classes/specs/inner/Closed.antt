@@ -1,6 +1,6 @@
 -- A list of nets closes net `n` if net `n` is covered and each tested driver of net `n` has a control with a driver on a net in the list.
--- If the list has the nets that control `c` shares, a safe setting with `c` enables no tested driver of net `n` except the drivers that `c`
--- controls.
+-- Let the list have the nets that control `c` shares with other controls. If it closes net `n`, a safe setting with `c` enables no tested
+-- driver of net `n` except the drivers that `c` controls.
 use Rattle.std.specs.Prelude.{◌≡◌, ℕ, Bool, true, false, ◌&&◌, ◌||◌, List, [], ◌∷◌, filter, length, nat_lt, slice_get, Contains}
 use Rattle.std.specs.Bool.{Decides}
 use Rattle.std.specs.List.{list_any, list_all, flat_map}
@@ -68,7 +68,7 @@ pub record AreOthers (board : RawBoard) (set : ControlSet) (nets : List ℕ) (ot
   pub drive : (c : Ctl) → passes c ≡ true → drives_some board nets c ≡ true
   pub all : (c : Ctl) → IsCell board c → drives_some board nets c ≡ true → has_control set c ≡ false → passes c ≡ true
 
--- there is a predicate `passes` such that the set is the set of the controls that satisfy it
+-- the set is the set of the controls that satisfy some predicate
 pub record IsSomeSet (board : RawBoard) (set : ControlSet) : Type 0 where
   pub passes : Ctl → Bool
   pub is_set : IsSet board passes set

@@ -19,7 +19,7 @@ pub record KnownBoard : Type 0 where
 abbrev pub known_board : RawBoard → List (List ControlClass) → KnownBoard
 known_board board controls = record { board = board; controls = controls }
 
--- the board keeps the rules, and the table has the class of each control
+-- the board keeps the rules of boards, and the table has the class of each control
 pub record IsKnown (known : KnownBoard) : Type 0 where
   pub rules : IsBoard known.board
   pub controls_are : (c : Ctl) → IsCell known.board c → item_of_cell known.controls c ≡ Some (control_class_of known.board c)

@@ -18,7 +18,7 @@ use Rattle.net_classes.specs.Pairs.{drivers_at, fits_at}
 abbrev pub owns_at : RawBoard → Ctl → ℕ → Bool
 owns_at board c n = list_any (λ d. is_by c (Some d)) (drivers_at board n)
 
--- row 0 has a 1 for each covered net, and the table of numbers has a number for each cell
+-- Row 0 has a 1 for each covered net, and has room for all nets. Each cell of the board has a row number.
 pub record HasCovered (board : RawBoard) (pairs : PairRows) : Type 0 where
   pub some : 0 < length pairs.rows.items
   pub covered : AreRowBits (fits_at board AlwaysOn) (row_in pairs 0)
