@@ -1,5 +1,4 @@
--- Lemmas about the class of a net. They say that the class that the code finds from the facts and the table is the class that the
--- definitions on the board give.
+-- The class of a net that the code finds from the facts and the table of controls is the class that the definitions on the board give.
 use Rattle.std.proofs.Common.{◌≡◌, ℕ, ◌==◌, Bool, true, false, not, ◌&&◌, List, [], ◌∷◌, map, length, Option, Some, None, refl, sym, ◌∙◌, ap, subst, cond, inl}
 use Rattle.std.specs.Prelude.{slice_get, option_map, filter_map, is_some}
 use Rattle.std.specs.List.{list_any, range_with_len, cons_option}
@@ -154,7 +153,6 @@ filter_map_same f g h (x ∷ xs) =
     ap (λ o. cons_option o (filter_map f xs)) (h x)
     ∙ ap (λ ys. cons_option (g x) ys) (filter_map_same f g h xs)
 
--- if the table says for each control whether it is safe alone, `tested_drive_in` returns the same as `tested_drive`
 drive_tested_is : (board : RawBoard) (rows : List (List ControlClass)) (net : Net) (place : ℕ)
     → IsBoard board → SaysSafe board rows
     → tested_drive_in rows (net_facts_of board net) place ≡ tested_drive board net place
@@ -171,7 +169,6 @@ drivers_is board rows net rules says =
     filter_map_same (tested_drive_in rows (net_facts_of board net)) (tested_drive board net)
     (λ k. drive_tested_is board rows net k rules says) (range_with_len 0 (length net.pins))
 
--- a net has no tested driver if and only if it is not covered
 pub covered_is : (board : RawBoard) (net : Net) → (length (tested_drivers board net) == 0) ≡ not (is_covered board net)
 covered_is board net = by_list (tested_drivers board net) refl
   where
@@ -190,7 +187,6 @@ covered_is board net = by_list (tested_drivers board net) refl
         (below_at (length net.pins) (is_tested_driver board net) t.place
         (tested_below board net t.place t.tested) t.tested))
 
--- if the table says for each control whether it is safe alone, `first_reason_in` returns the same as `first_reason`
 first_is : (board : RawBoard) (rows : List (List ControlClass)) (net : Net) → IsBoard board
     → SaysSafe board rows → first_reason_in rows (net_facts_of board net) ≡ first_reason board net
 first_is board rows net rules says =

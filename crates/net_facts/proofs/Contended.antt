@@ -43,7 +43,7 @@ several_stays (pin ∷ pins) = ap (λ s. controls_from s pins) (step pin.drive) 
     step (Some OneSided) = refl
     step (Some (By c)) = refl
 
--- if only control `d` was found before these pins, several controls are found if and only if some pin has a driver of another control
+-- Starting from control `d` alone, the pins give several controls if and only if one of them has a driver of another control.
 one_is : (d : Ctl) (pins : List PinFacts) → is_several (controls_from (One d) pins) ≡ list_any (other_pin d) pins
 one_is d [] = refl
 one_is d (pin ∷ pins) = by_drive pin.drive (one_is d pins)
@@ -180,8 +180,6 @@ map_item f rows c =
     by_row None = refl
     by_row (Some r) = slice_get-map f r c.cell
 
--- if the table of controls has the class of each control, the table `shared` has for each control the nets that it shares with another
--- control
 pub shared_rows : (board : RawBoard) (facts : List NetFacts) (flags : List Bool)
     (rows : List (List ControlClass)) (shared : List (List (List ℕ)))
     → facts ≡ map (net_facts_of board) board.nets → flags ≡ flags_of facts

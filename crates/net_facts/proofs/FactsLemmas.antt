@@ -1,4 +1,4 @@
--- Lemmas which say that the code computes the facts that the definitions on the board give.
+-- The code computes the facts that the definitions on the board give.
 use Rattle.std.proofs.Common.{◌≡◌, ℕ, ◌+◌, ◌<◌, Bool, true, false, ◌&&◌, ◌||◌, List, [], ◌∷◌, ◌++◌, length, map, take, get_or, Option, Some, None, refl, sym, ◌∙◌, ap}
 use Rattle.std.specs.Prelude.{option_map, slice_get}
 use Rattle.std.specs.List.{list_any}
@@ -45,8 +45,8 @@ any_either f g (x ∷ xs) = turn (f x) (g x) (list_any f xs) (list_any g xs) ∙
     turn false true false d = refl
     turn false false c d = refl
 
--- If some item satisfies `f`, then `s` is true or some item satisfies `f` or `g`. So testing this condition first does not change whether
--- some item satisfies `f`. The same is true for `g`.
+-- A net is guarded if `s` is true or some item satisfies `f` or `g`. So a test that looks for `f`, or for `g`, only on a guarded net has
+-- the same result as a test that looks on each net.
 any_guarded : {X : Type 0} (s : Bool) (f g : X → Bool) (xs : List X)
     → ((s || list_any (λ x. f x || g x) xs) && list_any f xs ≡ list_any f xs)
     × ((s || list_any (λ x. f x || g x) xs) && list_any g xs ≡ list_any g xs)
@@ -115,7 +115,6 @@ facts_are board net =
         x ≡ y
     same t t' d d' k k' pins pins' e f h i = cc
 
--- if `before` has the facts about the first `n` nets, appending the facts about net `n` gives the facts about the first `n + 1` nets
 pub facts_more : (board : RawBoard) (nets : List Net) (n : ℕ) (net : Net) (flag : Bool)
     (before : List NetFacts) → nets ≡ board.nets → n < length nets → net ≡ get_or nets n net
     → flag ≡ guarded_at board n →

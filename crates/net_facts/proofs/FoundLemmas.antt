@@ -1,4 +1,4 @@
--- Lemmas about the places at which the items of a list satisfy a predicate.
+-- Lemmas about `Found`, the places at which the items of a list satisfy a predicate.
 use Rattle.std.proofs.Common.{◌≡◌, ◌≢◌, ℕ, zero, suc, ◌+◌, ◌<◌, ◌==◌, Bool, true, false, not, ◌&&◌, List, length, Option, Some, None, refl, sym, ◌∙◌, ap, subst, arith, add-one, cond}
 use Rattle.std.specs.Prelude.{slice_get, if◌then◌else◌}
 use Rattle.std.proofs.lemmas.Option.{slice_get_within}
@@ -10,8 +10,6 @@ use Rattle.net_facts.specs.declared.found.Found.{Found}
 use Rattle.net_facts.specs.declared.found.Found.TheVariants.{Nowhere, At, Several}
 use Rattle.net_facts.specs.inner.Found.{found_with, is_elsewhere_of, found_below}
 
--- if `found` has the places below `k` that satisfy `test`, and `next` also has place `k` if it satisfies `test`, then `next` has the places
--- below `k + 1` that satisfy `test`
 pub found_more : (test : ℕ → Bool) (k : ℕ) (found next : Found) (passes : Bool)
     → found ≡ found_below test k → passes ≡ test k
     → next ≡ (if passes then found_with found k else found) → next ≡ found_below test (k + 1)
@@ -20,7 +18,7 @@ found_more test k found next passes f p g =
     ∙ ap (λ t. cond t (found_with (found_below test k) k) (found_below test k)) p
     ∙ ap (found_below test) (sym (add-one k))
 
--- what `found` says about the places below `k`: none satisfies `test`, only place `i` satisfies it, or at least two places satisfy it
+-- What `found` says about the places below `k`: none satisfies `test`, only place `i` does, or at least two do.
 data Places (test : ℕ → Bool) (k : ℕ) (found : Found) : Type 0 where
   none : found ≡ Nowhere → ((j : ℕ) → j < k → test j ≡ false) → Places test k found
   one : (i : ℕ) → found ≡ At i → i < k → test i ≡ true → ((j : ℕ) → j < k → test j ≡ true → j ≡ i) → Places test k found
@@ -92,7 +90,6 @@ some_passes : {X : Type 0} (test : X → Bool) (o : Option X) → passes_in test
 some_passes test None h = cc h
 some_passes test (Some x) h = (x, refl, h)
 
--- `is_elsewhere_of` returns whether an item at a place other than `place` satisfies the predicate
 pub elsewhere_is : {X : Type 0} (holds : X → Bool) (test : ℕ → Bool) (xs : List X) (place : ℕ)
     → ((k : ℕ) → test k ≡ passes_in holds (slice_get xs k))
     → is_elsewhere_of (found_below test (length xs)) place ≡ any_other holds place xs

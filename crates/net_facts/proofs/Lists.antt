@@ -13,7 +13,6 @@ filter_map_more f k =
     ap (λ n. filter_map f (range_with_len 0 n)) (add-one k) ∙ ap (filter_map f) (below_more k)
     ∙ filter_map-append f (range_with_len 0 k) (k ∷ [])
 
--- `length xs` copies of `y` are the list `xs` with each item replaced by `y`
 replicate_each : {X Y : Type 0} (y : Y) (xs : List X) → replicate (length xs) y ≡ map (λ x. y) xs
 replicate_each y [] = refl
 replicate_each y (x ∷ xs) = ap (λ ys. y ∷ ys) (replicate_each y xs)

@@ -1,4 +1,4 @@
--- Lemmas about the contents of the table of the controls after it is filled.
+-- Lemmas about what the table of controls has after all nets and all one-sided drivers are added, before useful controls are marked.
 use Rattle.std.proofs.Common.{◌≡◌, ℕ, zero, suc, ◌<◌, ◌≤◌, ◌==◌, Bool, true, false, not, ◌&&◌, ◌||◌, List, [], ◌∷◌, ◌++◌, map, length, Option, Some, None, refl, sym, ◌∙◌, ap, subst, arith, cond}
 use Rattle.std.specs.Prelude.{slice_get, option_map, option_and_then, filter}
 use Rattle.std.specs.List.{list_any, list_all, range_with_len}
@@ -30,7 +30,6 @@ use Rattle.net_facts.specs.inner.Rows.{unsafe_too, ends_with, note_net, note_net
 use Rattle.net_facts.proofs.RowLemmas.{copies_get}
 use Rattle.net_facts.proofs.Notes.{at_same, at_other, by_pin, run, pins_row, run_first, ends_other}
 
--- in the table before any net is noted, each control has no drivers
 fresh_at : (board : RawBoard) (c : Ctl) → IsCell board c → item_of_cell (fresh_rows board.chain) c ≡ Some fresh
 fresh_at board c h =
     ap (option_and_then (λ r. slice_get r c.cell))
@@ -90,7 +89,7 @@ none_is_one test (x ∷ xs) h = by_head (test x) h (none_is_one test xs)
     by_head true g rest = cc g
     by_head false g rest = rest g
 
--- there is a net, and it does not admit control `c`: no setting with `c` is safe on this net
+-- there is a net, and it does not allow control `c` in a safe setting
 abbrev pub refuses : RawBoard → Ctl → Option Net → Bool
 refuses board c None = false
 refuses board c (Some net) = not (admits board c net)
@@ -338,7 +337,6 @@ cell_part board c h = by_part (slice_get board.chain c.part) refl h
     by_part None e g = absurd (omega arith)
     by_part (Some part) e g = slice_get_within board.chain c.part part e
 
--- control `c` is safe alone if and only if it enables no one-sided driver and no net of the board refuses it
 safe_alone_is : (board : RawBoard) (c : Ctl)
     → (not (enables_one_sided board c) && not (refused board c (length board.nets)))
     ≡ is_safe_alone board c

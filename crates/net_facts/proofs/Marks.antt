@@ -1,4 +1,4 @@
--- Lemmas about the contents of the table of the controls after the useful controls are marked.
+-- Lemmas about what the table of controls has after the useful controls are marked.
 use Rattle.std.proofs.Common.{◌≡◌, Bool, true, false, ◌||◌, List, [], ◌∷◌, map, length, Option, Some, None, refl, sym, ◌∙◌, ap}
 use Rattle.std.specs.Prelude.{option_map, filter, fold}
 use Rattle.std.specs.List.{list_any}
@@ -145,7 +145,7 @@ marked_row board rows c h =
     (or-false (list_any (by_net c) (map (net_class_of board) board.nets))
     ∙ list_any-map (net_class_of board) (by_net c) board.nets ∙ useful_is board c)
 
--- these lists have the facts about the nets and controls of the board
+-- `nets`, `controls` and `useful` have the facts about the nets and controls of the board
 pub record Made (board : RawBoard) (nets : List NetClass) (controls : List (List ControlClass)) (useful : List Ctl) : Type 0 where
   pub nets_are : nets ≡ map (net_class_of board) board.nets
   pub controls_are : (c : Ctl) → IsCell board c → item_of_cell controls c ≡ Some (control_class_of board c)

@@ -1,4 +1,4 @@
--- Lemmas about the contents of the table of the controls after the nets are noted.
+-- Lemmas about what the table of controls has after the drivers of the nets are added.
 use Rattle.std.proofs.Common.{◌≡◌, ◌≢◌, ℕ, zero, suc, ◌-◌, ◌<◌, ◌==◌, Bool, true, false, not, ◌&&◌, ◌||◌, List, [], ◌∷◌, ◌++◌, length, Option, Some, None, refl, sym, ◌∙◌, ap, subst, arith, length-append, cond}
 use Rattle.std.specs.Prelude.{slice_get, option_map, option_and_then}
 use Rattle.std.specs.List.{list_any}
@@ -16,7 +16,6 @@ use Rattle.net_facts.specs.declared.classes.ControlClass.{ControlClass}
 use Rattle.net_facts.specs.Cells.{item_of_cell, update_at, at_control}
 use Rattle.net_facts.specs.inner.Rows.{with_one_driver, ends_with, is_net_number, note_drive, note_pins}
 
--- if the item at place `i` is changed by `f`, `f` of the old item is at place `i`
 pub get_update_same : {X : Type 0} (i : ℕ) (f : X → X) (xs : List X) → slice_get (update_at i f xs) i ≡ option_map f (slice_get xs i)
 get_update_same i f [] = refl
 get_update_same zero f (x ∷ xs) = refl
@@ -94,7 +93,7 @@ ends_other xs m n h =
     ∙ ap (is_net_number n) (get_appended xs m)
     ∙ false_from_ne_true (m == n) (λ e. let same : m ≡ n = eqb-true m n e in omega arith)
 
--- the item of control `c` after the pins of net `n` are noted
+-- the item of control `c` after the drivers on these pins of net `n` are added
 abbrev pub run : ℕ → Bool → Ctl → List PinFacts → ControlClass → ControlClass
 run n closed c [] row = row
 run n closed c (pin ∷ pins) row = run n closed c pins (cond (is_by c pin.drive) (with_one_driver n closed row) row)
@@ -148,8 +147,7 @@ by_pin c pin = is_by c pin.drive
 abbrev row_with : ControlClass → List ℕ → Bool → ControlClass
 row_with row nets safe = record { nets = nets; safe = safe; useful = row.useful }
 
--- If a control already has net `n`, noting the net's pins again leaves the control's nets unchanged. The control becomes unsafe if one of
--- the pins has a driver of it.
+-- If a control already has net `n`, further drivers on this net make it unsafe and change nothing else.
 pub run_again : (n : ℕ) (closed : Bool) (c : Ctl) (pins : List PinFacts) (row : ControlClass)
     → ends_with row.nets n ≡ true
     → run n closed c pins row ≡ row_with row row.nets (row.safe && not (list_any (by_pin c) pins))
@@ -178,7 +176,7 @@ run_again n closed c (pin ∷ pins) row h =
         ap (λ t. row_with row row.nets t) (sym (and-false row.safe)) ∙
         ap (λ t. row_with row row.nets (row.safe && not (t || list_any (by_pin c) pins))) (sym e)
 
--- the item of a control that did not have net `n`, after the pins of net `n` are noted
+-- the item of a control without net `n`, after the drivers on these pins of net `n` are added
 abbrev pub after_net : ℕ → Bool → Ctl → List PinFacts → ControlClass → ControlClass
 after_net n closed c pins row =
     cond (list_any (by_pin c) pins)

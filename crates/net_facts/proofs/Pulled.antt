@@ -1,4 +1,4 @@
--- Lemmas about the tables of port bits on pulled nets. They decide which pins are switching.
+-- Lemmas about the tables of port bits on pulled nets. The tables say which pins satisfy `is_switching`.
 use Rattle.std.proofs.Common.{◌≡◌, ℕ, ◌<◌, Bool, true, false, not, ◌&&◌, ◌||◌, List, [], ◌∷◌, map, replicate, Option, Some, None, refl, sym, ◌∙◌, ap, arith, cond}
 use Rattle.std.specs.Prelude.{slice_get, option_map, option_and_then, fold}
 use Rattle.std.specs.List.{list_any}

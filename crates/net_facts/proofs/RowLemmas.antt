@@ -47,7 +47,6 @@ note_nets_more nets i x rows h e =
     → List (List ControlClass) = λ w. note_net i w (note_nets nets i rows) in
     ap F got)
 
--- if an item is appended to a list, the items before it stay the same
 get_front : {X : Type 0} (xs : List X) (x : X) (k : ℕ) → k < length xs → slice_get (xs ++ x ∷ []) k ≡ slice_get xs k
 get_front [] x k h = absurd (omega arith)
 get_front (y ∷ xs) x zero h = refl
@@ -77,14 +76,12 @@ copies_get x (suc n) k h = by_last (k == n) refl (copies_get x n k)
         let less : k < n = grind arith in
         get_front (copies x n) x k (let l = copies_length x n in omega arith) ∙ rest less
 
--- if `new` is `f` of the item at place `i`, writing `new` at place `i` gives the same list as `update_at i f`
 pub set_value : {X : Type 0} (i : ℕ) (f : X → X) (xs : List X) (d new : X) → i < length xs
     → new ≡ f (get_or xs i d) → set xs i new ≡ update_at i f xs
 set_value i f [] d new h e = absurd (omega arith)
 set_value zero f (y ∷ xs) d new h e = ap (λ z. z ∷ xs) e
 set_value (suc i) f (y ∷ xs) d new h e = ap (λ ys. y ∷ ys) (set_value i f xs d new (omega arith) e)
 
--- if a row is appended to the vectors, the row's items are appended to the table
 table_end : {Y : Type 0} (made : List (Vec Y Global)) (row : Vec Y Global) → table (made ++ row ∷ []) ≡ table made ++ row.items ∷ []
 table_end [] row = refl
 table_end (first ∷ made) row = ap (λ ys. first.items ∷ ys) (table_end made row)

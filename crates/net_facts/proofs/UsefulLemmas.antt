@@ -54,8 +54,6 @@ joined : (xs ys zs : List Ctl) → (xs ++ ys) ++ zs ≡ xs ++ (ys ++ zs)
 joined [] ys zs = refl
 joined (x ∷ xs) ys zs = ap (λ v. x ∷ v) (joined xs ys zs)
 
--- If `before` ends with the cells of the part below `cell` that satisfy `p`, and cell `cell` is appended if it satisfies `p`, then `after`
--- ends with the cells below `cell + 1` that satisfy `p`.
 pub cell_more : (p : Ctl → Bool) (part cell : ℕ) (initial before after : List Ctl) (t : Bool)
     → before ≡ initial ++ filter p (map (cell_in part) (range_with_len 0 cell))
     → t ≡ p (cell_in part cell) → after ≡ before ++ cond t (cell_in part cell ∷ []) [] →
@@ -72,7 +70,6 @@ cells_whole board k h =
     ap (λ xs. flat_map (λ (part : ℕ × Part). cells_of part.0 part.1.kind) (enumerate_from 0 xs))
     (take_all k board.chain h)
 
--- each item in the list of all cells is a boundary cell of a described part
 pub has_cell : (board : RawBoard) (c : Ctl) → Has (all_cells board) c → IsCell board c
 has_cell board c h =
     let f : ℕ × Part → List Ctl = λ q. cells_of q.0 q.1.kind in

@@ -26,7 +26,7 @@ update_at (suc i) f (x ∷ xs) = x ∷ update_at i f xs
 abbrev pub at_control : {X : Type 0} → Ctl → (X → X) → List (List X) → List (List X)
 at_control c f rows = update_at c.part (update_at c.cell f) rows
 
--- returns `item`, whatever the old item is
+-- the new item `item`, whatever the old item is
 abbrev pub put : {X : Type 0} → X → X → X
 put item before = item
 

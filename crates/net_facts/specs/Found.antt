@@ -1,4 +1,4 @@
--- Numbers that occur in two ascending lists.
+-- Ascending lists of numbers, and whether two of them have a number in common.
 use Rattle.std.specs.Prelude.{◌≡◌, ℕ, ◌<◌, List, length, slice_index}
 
 abbrev pub IsAscending : List ℕ → Type 0

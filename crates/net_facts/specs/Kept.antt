@@ -1,4 +1,4 @@
--- The facts about nets, pins and controls. A fact that depends on safe settings is the result of the function that decides it, such as
+-- The facts about nets, pins and controls. Facts that depend on safe settings are the results of Boolean tests such as
 -- `is_tested_driver`.
 use Rattle.std.specs.Prelude.{◌≡◌, ℕ, Bool, false, not, ◌&&◌, List, map, filter, length, Option, Some, None, slice_get, is_some}
 use Rattle.std.specs.List.{list_any, range_with_len}
@@ -38,7 +38,7 @@ is_by_other c (Some (By d)) = not (same_ctl d c)
 abbrev pub is_contended : RawBoard → Ctl → Net → Bool
 is_contended board c net = drives_net board c net && list_any (λ p. is_by_other c (drive board net p)) net.pins
 
--- like `is_contended`, but for a net that may be missing
+-- like `is_contended`, but false if there is no net
 abbrev pub contends_there : RawBoard → Ctl → Option Net → Bool
 contends_there board c None = false
 contends_there board c (Some net) = is_contended board c net

@@ -1,5 +1,5 @@
-// The table of the controls. For each control, it has the nets on which the control has drivers, and says whether the control is safe
-// alone.
+// The table of controls. For each control, it has the nets on which the control has drivers, and says whether the
+// control is safe alone and whether it is useful.
 ghost use Rattle.std.specs.Prelude.{◌≡◌, ◌<◌, ◌≤◌, length, fold, map, OnOk, IfOk};
 ghost use Rattle.board_defs.specs.Limits.{most_bits, most_nets};
 ghost use Rattle.board_defs.specs.Pins.{cell_count, described};
@@ -24,8 +24,8 @@ fn is_last(nets: &[u32], net: u32) -> bool
     }
 }
 
-/// Notes that the control has one more driver, on net number `net`. `closed` says that no control may enable a driver
-/// of this net.
+/// Adds one more driver of the control, on net number `net`. `closed` says that no control may enable a driver of this
+/// net.
 fn add(row: &mut ControlClass, net: u32, closed: bool) -> Result<(), AllocError>
     ensures { OnOk result (row.new ≡ with_one_driver net closed row.old) }
 {
@@ -93,7 +93,8 @@ fn note_net(
     Ok(())
 }
 
-/// Notes for each control the nets on which it has drivers, and whether one of these nets makes the control unsafe.
+/// Adds to each control the nets on which it has drivers, and marks the control as unsafe if one of these nets makes it
+/// unsafe. There must be at most 16,382 nets.
 fn note_all(rows: &mut [Vec<ControlClass>], nets: &[NetFacts]) -> Result<(), AllocError>
     requires { length nets.now ≤ most_nets }
     ensures { OnOk result (table rows.new ≡ note_nets nets.now (length nets.now) (table rows.old)) }
@@ -153,7 +154,7 @@ fn mark_drivers(rows: &mut [Vec<ControlClass>], drivers: &[Drive])
     }
 }
 
-/// Marks the controls of tested drivers as useful.
+/// Marks the controls of the nets' tested drivers as useful.
 pub fn mark_useful(rows: &mut [Vec<ControlClass>], nets: &[NetClass])
     ensures { table rows.new ≡ mark_nets (table rows.old) nets.now }
 {
@@ -162,8 +163,8 @@ pub fn mark_useful(rows: &mut [Vec<ControlClass>], nets: &[NetClass])
     }
 }
 
-/// Returns the number of the part's boundary cells. Each has an item in the table of controls. A part without a description has no boundary
-/// cells.
+/// Returns the number of the part's boundary cells. A part without a description has none. The table of controls has an
+/// item for each cell.
 pub fn cells_of(kind: &PartKind) -> u32
     ensures { result ≡ cell_count (described kind.now) }
 {
@@ -198,7 +199,7 @@ fn fresh_table(alloc: Global, chain: &[Part]) -> Result<Vec<Vec<ControlClass>>, 
     Ok(rows)
 }
 
-/// If the driver of the port bit is one-sided, marks its control as unsafe.
+/// Marks the control of the port bit's driver as unsafe if the driver is one-sided. The part must have this port bit.
 fn block_pin(rows: &mut [Vec<ControlClass>], board: &PulledBoard<'_, '_>, at: PinAt)
     requires { at.bit < count_port_bits board.now at.part }
     ensures { table rows.new
@@ -244,7 +245,8 @@ fn block_all(rows: &mut [Vec<ControlClass>], board: &PulledBoard<'_, '_>)
     }
 }
 
-/// Returns the table of the controls, made from the facts about the nets. No control is marked as useful yet.
+/// Returns the table of controls, in which no control is marked as useful yet. `nets` must have the facts about the
+/// board's nets.
 pub fn control_rows(
     alloc: Global,
     board: &BoardPins<'_>,

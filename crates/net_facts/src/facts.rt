@@ -50,7 +50,7 @@ fn any_test_pin(board: &RawBoard, pins: &[NetPin]) -> bool
 }
 
 // Returns whether the net has a pin of a test access port or of compliance patterns. An unguarded net has no such pin,
-// so only the pins of guarded nets are looked up.
+// so the function looks only at the pins of a guarded net.
 fn has_test_pin(board: &BoardPins<'_>, guarded: bool, pins: &[NetPin]) -> bool
     ensures { result ≡ (guarded && list_any (is_test_pin board.now) pins.now) }
 {

@@ -1,8 +1,10 @@
-// The places at which the items of a list satisfy a predicate. At most one of these places is remembered.
+// The places at which the items of a list satisfy a predicate, and the numbers that two lists have in common.
 ghost use Rattle.std.specs.Prelude.{◌≡◌, ◌↔◌, IsTrue, if◌then◌else◌};
 ghost use Rattle.net_facts.specs.Found.{IsAscending, Meet};
 ghost use Rattle.net_facts.specs.inner.Found.{is_elsewhere_of, found_with};
 
+/// The places at which the items of a list satisfy a predicate: none, one, or several. The place is known only if there
+/// is just one.
 #[derive(Clone, Copy)]
 pub enum Found {
     Nowhere,
@@ -21,7 +23,7 @@ impl Found {
         }
     }
 
-    /// Returns these places with `place` added if `passes` is true.
+    /// Returns the places, with `place` added if `passes` is true.
     pub fn with_if(self, place: usize, passes: bool) -> Found
         ensures { result ≡ (if passes then found_with self place else self) }
     {
@@ -40,7 +42,7 @@ impl Found {
     }
 }
 
-/// Returns whether two ascending lists have a number in common.
+/// Returns whether two lists have a number in common. Both lists must be ascending.
 pub fn meet(a: &[u32], b: &[u32]) -> bool
     requires first { IsAscending a.now }
     requires second { IsAscending b.now }

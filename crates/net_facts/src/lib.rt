@@ -6,7 +6,8 @@
 //!   enabled;
 //! - for each pin: whether it is a tested driver or a tested receiver;
 //! - for each control: the nets with its drivers, whether it is safe alone, and whether it is useful;
-//! - for each control: the nets that it shares with another control. Only on such a net can two controls conflict.
+//! - for each control: the nets that it shares with another control. Two controls that are safe alone can be unsafe
+//!   together only if they share a net.
 //!
 //! The crate `net_classes` answers what one setting can do with two nets or two controls.
 #![tactic(auto)]

@@ -63,7 +63,7 @@ fn own_control(entry: Option<Cell>) -> Option<Control>
 }
 
 impl<'a, 'b> PulledBoard<'a, 'b> {
-    /// Returns the board with the tables of port bits, made from the facts about the nets.
+    /// Returns the board with the tables of port bits. `nets` must have the facts about the board's nets.
     pub fn of(
         alloc: Global,
         board: &'a BoardPins<'b>,
@@ -78,7 +78,7 @@ impl<'a, 'b> PulledBoard<'a, 'b> {
         Ok(PulledBoard { board, low, high })
     }
 
-    /// Returns the record of the board. The record keeps the rules of a board.
+    /// Returns the record of the board, which keeps the rules of boards.
     pub fn raw(&self) -> &'b RawBoard
         ensures value { result.now ≡ self.now }
         ensures rules { IsBoard self.now }
@@ -117,7 +117,8 @@ impl<'a, 'b> PulledBoard<'a, 'b> {
         own_control(self.board.driving_entry(at))
     }
 
-    /// Returns whether the pin at `at` is on an unguarded net that is pulled to `value`.
+    /// Returns whether the pin at `at` is on an unguarded net that is pulled to `value`. The part must have this port
+    /// bit.
     pub fn is_switching(&self, at: PinAt, value: bool) -> bool
         requires { at.bit < count_port_bits self.now at.part }
         ensures { result ≡ is_switching self.now at value }

@@ -1,4 +1,5 @@
-// The nets with drivers of two or more controls. Only on such a net can two controls conflict.
+// The nets with drivers of two or more controls. Two controls that are safe alone can be unsafe together only if they
+// share such a net.
 ghost use Rattle.std.specs.Prelude.{◌≡◌, false, filter, map, slice_index_or, IfOk};
 ghost use Rattle.board_defs.specs.Settings.{same_ctl};
 ghost use Rattle.net_facts.specs.Cells.{table};
@@ -11,7 +12,7 @@ use board_defs::{Ctl, Drive};
 use lists::{Items, is_set};
 use std::alloc::{AllocError, Global};
 
-/// The controls of the drivers that have been seen. At most one of these controls is remembered.
+/// The controls of the drivers seen so far: none, one, or several. The control is known only if there is just one.
 #[derive(Clone, Copy)]
 pub enum Controls {
     Nobody,
@@ -109,7 +110,8 @@ fn shared_row(
     Ok(shared)
 }
 
-/// Returns, for each control, the numbers of the nets that it shares with another control.
+/// Returns, for each control, the numbers of the nets that it shares with another control. `flags` says of each net
+/// whether it has drivers of two different controls.
 pub fn shared_table(
     alloc: Global,
     flags: &[bool],

@@ -1,4 +1,5 @@
-// The facts about nets that depend on safe settings. The code finds them from the other facts about nets and the table of the controls.
+// The facts about nets that depend on safe settings. The code finds them from the other facts about the nets and from
+// the table of controls.
 ghost use Rattle.std.specs.Prelude.{◌≡◌, ◌++◌, [], None, if◌then◌else◌, length, map, option_copied, is_some, IfOk, OnOk};
 ghost use Rattle.std.specs.List.{cons_option, list_any, range_with_len};
 ghost use Rattle.net_facts.specs.Cells.{item_of_cell, table};
@@ -40,7 +41,8 @@ pub fn is_useful(rows: &[Vec<ControlClass>], c: Ctl) -> bool
     }
 }
 
-/// Returns whether there is a driver that some safe setting enables.
+/// Returns whether there is a driver and some safe setting enables it. The table must say which controls are safe
+/// alone.
 pub fn can_enable(rows: &[Vec<ControlClass>], drive: Option<Drive>) -> bool
     ensures { result ≡ may_be_enabled (table rows.now) drive }
 {

@@ -37,7 +37,7 @@ fn add_part(
     Ok(())
 }
 
-/// Returns the useful controls, in control order.
+/// Returns the controls that the table marks as useful, in control order.
 pub fn useful_controls(
     alloc: Global,
     rows: &[Vec<ControlClass>],

@@ -1,4 +1,4 @@
--- The table of the controls while the code fills it.
+-- The table of controls while the code fills it.
 use Rattle.std.specs.Prelude.{ℕ, zero, suc, ◌==◌, ◌-◌, length, Bool, true, false, not, ◌&&◌, List, [], ◌∷◌, ◌++◌, map, Option, Some, None, slice_get, cond, fold}
 use Rattle.board_defs.specs.declared.board.Part.{Part}
 use Rattle.board_defs.specs.declared.board.PinAt.{PinAt}
@@ -21,8 +21,8 @@ is_net_number n (Some x) = x == n
 abbrev pub ends_with : List ℕ → ℕ → Bool
 ends_with nets n = is_net_number n (slice_get nets (length nets - 1))
 
--- The control with one more driver, on net `n`. If the control already has a driver on net `n`, it becomes unsafe. It also becomes unsafe
--- if no control may enable a driver of the net.
+-- The control with one more driver, on net `n`. The control becomes unsafe if it already has a driver on net `n`, or if the net is
+-- closed: no control may enable a driver of it.
 abbrev pub with_one_driver : ℕ → Bool → ControlClass → ControlClass
 with_one_driver n closed row =
     cond (ends_with row.nets n) (record row { safe = false })
@@ -36,7 +36,7 @@ unsafe_too row = record row { safe = false }
 abbrev pub useful_too : ControlClass → ControlClass
 useful_too row = record row { useful = true }
 
--- The table after a driver on net `n` is noted at the driver's control. If there is no driver, or it has no control, the table stays the
+-- The table with a driver on net `n` added at the driver's control. If there is no driver, or it has no control, the table stays the
 -- same.
 abbrev pub note_drive : ℕ → Bool → Option Drive → List (List ControlClass) → List (List ControlClass)
 note_drive n closed None rows = rows
@@ -51,7 +51,7 @@ abbrev pub note_net : ℕ → Option NetFacts → List (List ControlClass) → L
 note_net n None rows = rows
 note_net n (Some net) rows = note_pins n net.closed rows net.pins
 
--- the table after the first `k` nets are noted
+-- the table with the drivers of the first `k` nets added
 abbrev pub note_nets : List NetFacts → ℕ → List (List ControlClass) → List (List ControlClass)
 note_nets nets zero rows = rows
 note_nets nets (suc k) rows = note_net k (slice_get nets k) (note_nets nets k rows)
@@ -68,7 +68,7 @@ copies x (suc n) = copies x n ++ x ∷ []
 abbrev pub fresh_rows : List Part → List (List ControlClass)
 fresh_rows chain = map (λ part. copies fresh (cell_count (described part.kind))) chain
 
--- marks the control of the driver at `at` as unsafe, if that driver is one-sided
+-- the table with the control of the driver at `at` marked as unsafe, if that driver is one-sided
 abbrev pub block_where : RawBoard → PinAt → Option Control → List (List ControlClass) → List (List ControlClass)
 block_where board at None rows = rows
 block_where board at (Some control) rows =
@@ -86,11 +86,11 @@ abbrev pub block_parts : RawBoard → ℕ → List (List ControlClass) → List 
 block_parts board zero rows = rows
 block_parts board (suc k) rows = block_bits board k (count_port_bits board k) (block_parts board k rows)
 
--- the table after all nets and all one-sided drivers are noted
+-- the table with the drivers of all nets added, and the controls of all one-sided drivers marked as unsafe
 abbrev pub made_rows : RawBoard → List NetFacts → List (List ControlClass)
 made_rows board nets = block_parts board (length board.chain) (note_nets nets (length nets) (fresh_rows board.chain))
 
--- the table in which the control of a tested driver is marked as useful
+-- the table with the control of a tested driver marked as useful
 abbrev pub mark_drive : List (List ControlClass) → Drive → List (List ControlClass)
 mark_drive rows AlwaysOn = rows
 mark_drive rows OneSided = rows
