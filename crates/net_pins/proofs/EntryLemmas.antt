@@ -1,5 +1,4 @@
--- Lemmas which say that the receiving entries of a port bit give its compared cells, and that each entry of a port bit belongs to a cell of
--- the bit's part.
+-- The entries of a port bit: the receiving ones give the compared cells of its pin, and each entry belongs to a cell of the bit's part.
 use Rattle.std.proofs.Common.{◌≡◌, ℕ, ◌<◌, Bool, true, false, cond, ◌&&◌, ◌||◌, List, [], ◌∷◌, map, Option, Some, None, refl, ap, ◌∙◌, arith}
 use Rattle.std.specs.Prelude.{slice_get, option_and_then, filter, All}
 use Rattle.std.specs.List.{list_any}
@@ -17,7 +16,6 @@ use Rattle.port_entries.specs.Entries.{entries_on, entries_of}
 use Rattle.net_pins.specs.NetCells.{reader_cell, readers_in, readers_at}
 use Rattle.net_pins.specs.inner.Receiving.{receives_by}
 
--- filtering the entries of port bit `k` by `roles` gives the entries that are on port bit `k` and satisfy `roles`
 filter_on : (roles : Cell → Bool) (k : ℕ) (cells : List Cell)
     → filter roles (entries_on cells k) ≡ filter (λ cell. is_on k cell.bit && roles cell) cells
 filter_on roles k [] = refl
@@ -30,8 +28,6 @@ filter_on roles k (cell ∷ cells) = by_test (is_on k cell.bit) (filter_on roles
     by_test false rest = rest
 
 module _ (board : RawBoard) (at : PinAt) where
-  -- if the part can receive from the port bit, the receiving entries of the bit give the compared cells of its pin; otherwise the pin has
-  -- none
   pub readers_is : (place : ℕ) →
       cond (receives_by (bit_at board at))
       (map (reader_cell board at.part place)
@@ -79,7 +75,6 @@ module _ (board : RawBoard) (at : PinAt) where
           (filter_on (λ cell. is_receiving cell.role) at.bit device.cells)
           ∙ by_bit device (slice_get device.bits at.bit)
 
-  -- each entry of a port bit belongs to a cell of the bit's part
   pub entries_below : IsBoard board
       → All (λ cell. cell.num < cell_count (device_at board at.part))
       (entries_of (device_at board at.part) at.bit)

@@ -1,4 +1,4 @@
--- Lemmas which say that flag `n` says whether net `n` is guarded.
+-- Flag `n` of the table of guarded nets says whether net `n` is guarded.
 use Rattle.std.proofs.Common.{◌≡◌, ℕ, Bool, false, List, map, get_or, Option, Some, None, unwrap_or, refl, sym, ap, ◌∙◌}
 use Rattle.std.specs.Prelude.{slice_get, option_map}
 use Rattle.std.proofs.lemmas.Option.{slice_get-map, unwrap_or-slice_get}

@@ -1,4 +1,4 @@
--- The drivers and the compared cells of a net, found in the tables of its board.
+-- The tables of a board have the drivers and the compared cells of each net.
 use Rattle.std.proofs.Common.{◌≡◌, ℕ, List, [], map, get_or, Some, ap, ◌∙◌}
 use Rattle.std.specs.Prelude.{slice_get}
 use Rattle.std.proofs.lemmas.List.{get_or-map}
@@ -10,7 +10,6 @@ use Rattle.net_pins.specs.NetCells.{drivers_of, readers_of}
 use Rattle.net_pins.specs.Enabled.{drivers_on, readers_on}
 use Rattle.net_pins.specs.Tables.{AreNetTables}
 
--- if a list has the row of each item, the row at an item's place is the item's row
 row_is : {X Y : Type 0} (f : X → List Y) (xs : List X) (rows : List (List Y)) (k : ℕ) (x : X)
     → rows ≡ map f xs → slice_get xs k ≡ Some x → get_or rows k [] ≡ f x
 row_is {X} {Y} f xs rows k x are e =

@@ -25,7 +25,6 @@ cell_of_kind : (kind : PartKind) (cell : ℕ) → cell < cell_count (described k
 cell_of_kind (Described device) cell less = less
 cell_of_kind (Bypass n) cell less = absurd (omega (arith, less))
 
--- if the part has the cell, the part is in the chain, and the cell's position is less than the length of a data scan
 cell_in : (parts : List Part) (part cell : ℕ) → cell < cell_count (option_and_then (λ p. described p.kind) (slice_get parts part)) →
     (part < length parts) × (bits_of (drop (suc part) parts) + cell < bits_of parts)
 cell_in [] part cell less = absurd (omega (arith, less))
@@ -57,7 +56,6 @@ first_is board firsts are part cell less =
     let next : part + 1 ≡ suc part = omega arith in
     (omega (arith, within, are.count), are.each part within ∙ ap (λ (n : ℕ). bits_of (drop n board.chain)) next)
 
--- the cell of a port bit's driving entry is a cell of the bit's part
 pub entry_below : (board : RawBoard) → IsBoard board → (at : PinAt) (cell : Cell)
     → entry_at board at ≡ Some cell → cell.num < cell_count (device_at board at.part)
 entry_below board rules at cell e = by_device (device_at board at.part) refl e
@@ -70,7 +68,6 @@ entry_below board rules at cell e = by_device (device_at board at.part) refl e
         (device_rules board at.part device rules d).cells_below
         (find_has (drives_bit at.bit) device.cells cell f).0
 
--- if `x` is appended to the list at place `n`, `f n x` is appended to the gathered list
 gathered-append : {X Y : Type 0} (f : ℕ → X → List Y) (k : ℕ) (xs : List X) (x : X) (n : ℕ)
     → n ≡ k + length xs → gathered f k (xs ++ x ∷ []) ≡ gathered f k xs ++ f n x
 gathered-append f k [] x n e = let z : k ≡ n = omega (arith, e) in append-nil (f k x) ∙ ap (λ (m : ℕ). f m x) z

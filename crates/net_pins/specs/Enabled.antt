@@ -7,7 +7,7 @@ use Rattle.net_pins.specs.declared.nets.NetDriver.{NetDriver}
 use Rattle.net_pins.specs.declared.nets.ReaderCell.{ReaderCell}
 use Rattle.net_pins.specs.declared.net_tables.NetTables.{NetTables}
 
--- a driver with this control is enabled in the setting
+-- the setting enables a driver with this control; it enables each driver that has no control
 abbrev pub is_driver_on : Enabling → Option Ctl → Bool
 is_driver_on setting None = true
 is_driver_on setting (Some c) = setting c
@@ -16,7 +16,7 @@ is_driver_on setting (Some c) = setting c
 abbrev pub enabled_in : Enabling → List NetDriver → Option NetDriver
 enabled_in setting drivers = find (λ d. is_driver_on setting d.ctl) drivers
 
--- a pin other than the driver's has a compared cell
+-- some compared cell belongs to a pin other than the driver's
 abbrev pub is_read_beside : List ReaderCell → NetDriver → Bool
 is_read_beside readers d = list_any (λ r. not (r.place == d.place)) readers
 

@@ -1,4 +1,5 @@
--- The cells that drive and read each net.
+-- The cells that drive and read each net. A compared cell is a cell of a receiver whose entry is INPUT, CLOCK or BIDIR: a test compares
+-- the bit that it captures.
 use Rattle.std.specs.Prelude.{ℕ, suc, ◌+◌, cond, List, [], ◌∷◌, ◌++◌, map, filter, Option, Some, None, option_map}
 use Rattle.board_defs.specs.declared.device.Cell.{Cell}
 use Rattle.board_defs.specs.declared.device.RawDevice.{RawDevice}

@@ -21,7 +21,7 @@ pub record AreNetTables (board : RawBoard) (nets : NetTables) : Type 0 where
   pub drivers_are : nets.drivers ≡ all_drivers board
   pub readers_are : nets.readers ≡ all_readers board
 
--- the tables of the board, and the drivers and the compared cells of its nets
+-- the pin tables of the board, and the drivers and the compared cells of its nets
 pub record AreNetPins (board : RawBoard) (pins : NetPins) : Type 0 where
   pub finding : ArePinTables board pins.tables
   pub nets_are : AreNetTables board pins.nets

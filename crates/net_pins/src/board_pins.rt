@@ -14,8 +14,8 @@ use lists::is_set;
 use port_entries::{driving_entry, entries_at, has_dark_pin, receives};
 use std::marker::Model;
 
-/// A board with its pin tables. Contracts see it as the board. No question about a pin needs a walk over all cells
-/// of its part.
+/// A board with its pin tables. Contracts see it as the board. The tables answer a question about a pin without a
+/// search through all cells of its part.
 #[derive(Drop)]
 pub struct BoardPins<'a> {
     board: &'a Board,
@@ -42,7 +42,7 @@ impl<'a> BoardPins<'a> {
         BoardPins { board, tables }
     }
 
-    /// Returns the record of the board. The record keeps the rules of a board.
+    /// Returns the record of the board, which keeps the rules of boards.
     pub fn raw(&self) -> &'a RawBoard
         ensures value { result.now ≡ self.now }
         ensures rules { IsBoard self.now }
@@ -86,7 +86,7 @@ impl<'a> BoardPins<'a> {
         has_dark_pin(self.tables.entries.as_slice(), self.board.raw(), pins)
     }
 
-    /// Returns the position of a described part's cell in data scans.
+    /// Returns the position of a described part's cell in data scans. The part must have this boundary cell.
     pub fn position(&self, part: u32, cell: u32) -> u32
         requires { cell < cell_count (device_at self.now part) }
         ensures { result ≡ first_position self.now part + cell }

@@ -1,4 +1,4 @@
-// Collects the drivers of all nets that a setting may enable.
+// Collects, for each net, the drivers that a setting may enable.
 ghost use Rattle.std.specs.Prelude.{◌≡◌, ◌≤◌, length, map, IfOk, All};
 ghost use Rattle.board_defs.specs.Limits.{most_pins};
 ghost use Rattle.net_pins.specs.NetCells.{all_drivers, drivers_of};

@@ -72,7 +72,7 @@ impl NetTables {
         items_at(self.drivers.as_slice(), net)
     }
 
-    /// Returns the cells that read a net, in pin order. There are none if no net has this number.
+    /// Returns the compared cells of a net, in pin order. There are none if no net has this number.
     #[inline]
     pub fn readers(&self, net: u32) -> &[ReaderCell]
         ensures { result.now ≡ readers_on self.now net }
@@ -80,15 +80,16 @@ impl NetTables {
         items_at(self.readers.as_slice(), net)
     }
 
-    /// Returns the driver that a setting enables on a net, if there is one. A safe setting enables at most one.
+    /// Returns the first driver of a net that the setting enables, if there is one. A safe setting enables at most one
+    /// driver of the net.
     pub fn enabled(&self, setting: &Setting, net: u32) -> Option<NetDriver>
         ensures { result ≡ enabled_on self.now (holds setting.now) net }
     {
         enabled(self.drivers(net), setting)
     }
 
-    /// Returns the driver by which a setting observes a net, if there is one: the driver that the setting enables, if
-    /// some cell reads another pin of the net.
+    /// Returns the driver by which a setting observes a net, if there is one: the first driver that the setting
+    /// enables, if another pin of the net has a compared cell.
     pub fn observer(&self, setting: &Setting, net: u32) -> Option<NetDriver>
         ensures { result ≡ observer_on self.now (holds setting.now) net }
     {

@@ -1,4 +1,5 @@
-// The cells that drive and read each net.
+// The cells that drive and read each net. A compared cell is a cell of a receiver whose entry is INPUT, CLOCK or BIDIR:
+// a test compares the bit that it captures.
 ghost use Rattle.std.specs.Prelude.{◌≡◌, ◌<◌, ◌≤◌, ◌++◌, length, map, filter, Some, IfOk, OnOk, All};
 ghost use Rattle.board_defs.specs.Limits.{most_pins};
 ghost use Rattle.board_defs.specs.DeviceRules.{is_receiving};
@@ -44,14 +45,15 @@ impl NetDriver {
     }
 }
 
-/// A cell that reads a net: the place of its pin in the net, and the position of the cell in data scans.
+/// A compared cell of a net: the place of its pin in the net, and the position of the cell in data scans.
 #[derive(Clone, Copy)]
 pub struct ReaderCell {
     pub place: u32,
     pub position: u32,
 }
 
-// Returns the driver on the pin at `place` whose driving entry is this entry of part `part`.
+// Returns the driver on the pin at `place` whose driving entry is this entry of part `part`. The part must have the
+// entry's cell.
 fn net_driver(board: &BoardPins<'_>, part: u32, place: u32, cell: Cell) -> NetDriver
     requires { cell.num < cell_count (device_at board.now part) }
     ensures { result ≡ net_driver board.now part place cell }
@@ -93,7 +95,7 @@ fn push_some(drivers: &mut Vec<NetDriver>, driver: Option<NetDriver>) -> Result<
     Ok(())
 }
 
-// Returns the drivers of a net with these pins, in pin order.
+// Returns the drivers of a net with these pins, in pin order. There must be at most 65,535 pins.
 fn drivers_of_pins(
     alloc: Global,
     board: &BoardPins<'_>,
@@ -109,7 +111,8 @@ fn drivers_of_pins(
     Ok(Items::of(drivers))
 }
 
-/// Returns the drivers of a net that a setting may enable, in pin order. A guarded net has no such driver.
+/// Returns the drivers of a net that a setting may enable, in pin order. A guarded net has no such driver, and
+/// `is_guarded` must say whether the net is guarded. The net must have at most 65,535 pins.
 pub fn drivers_of(
     alloc: Global,
     board: &BoardPins<'_>,
@@ -126,7 +129,7 @@ pub fn drivers_of(
     drivers_of_pins(alloc, board, net.pins.as_slice())
 }
 
-// Appends the compared cells of these entries of a port bit.
+// Appends the compared cells of these entries of a port bit. The part must have the entries' cells.
 fn push_readers(
     board: &BoardPins<'_>,
     part: u32,
@@ -193,7 +196,7 @@ fn push_pin(
     }
 }
 
-/// Returns the compared cells of a net with these pins, in pin order.
+/// Returns the compared cells of a net with these pins, in pin order. There must be at most 65,535 pins.
 pub fn readers_of(
     alloc: Global,
     board: &BoardPins<'_>,

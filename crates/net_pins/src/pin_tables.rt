@@ -1,4 +1,4 @@
-// Tables that answer questions about a pin without a walk over all cells of the pin's part, and the guarded nets.
+// Tables that answer questions about a pin without a search through all cells of its part, and the guarded nets.
 ghost use Rattle.std.specs.Prelude.{IfOk};
 ghost use Rattle.net_pins.specs.Tables.{ArePinTables};
 
@@ -16,7 +16,7 @@ pub struct PinTables {
     /// The entries of each port bit of each part.
     pub entries: Items<Items<BitEntries>>,
     /// A flag for each net, which is true if the net is guarded. On a guarded net, no setting may enable a controlled
-    /// or a one-sided driver. No setting observes such a net, so none of its drivers is kept, not even one that is
+    /// or a one-sided driver. No setting observes such a net, so `NetTables` has no driver of it, not even one that is
     /// always on.
     pub guarded: Items<bool>,
 }

@@ -18,7 +18,7 @@ pub struct NetPins {
 }
 
 impl NetPins {
-    /// Returns the cells on the nets of a board.
+    /// Returns the pin tables of the board, and the cells on each of its nets.
     pub fn new(alloc: Global, board: &Board) -> Result<NetPins, AllocError>
         ensures { IfOk result (λ pins. AreNetPins board.now pins) }
     {
@@ -26,7 +26,7 @@ impl NetPins {
         NetPins::of(alloc, board, tables)
     }
 
-    /// Like `new`, but takes ownership of the board's tables.
+    /// Like `new`, but takes ownership of the pin tables, which must be those of the board.
     pub fn of(alloc: Global, board: &Board, tables: PinTables) -> Result<NetPins, AllocError>
         requires { ArePinTables board.now tables }
         ensures { IfOk result (λ pins. AreNetPins board.now pins) }

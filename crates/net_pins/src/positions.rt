@@ -26,7 +26,8 @@ pub fn first_positions(alloc: Global, board: &Board) -> Result<Vec<u32>, AllocEr
     firsts_of(alloc, board.raw().chain.as_slice(), board.dr_bits())
 }
 
-/// Returns the position of a described part's cell in data scans.
+/// Returns the position of a described part's cell in data scans. The part must have this boundary cell, and `firsts`
+/// must have the position of each part's first bit.
 pub fn cell_position(board: &Board, firsts: &[u32], part: u32, cell: u32) -> u32
     requires firsts { AreFirsts board.now.chain firsts.now }
     requires cell { cell < cell_count (device_at board.now part) }
