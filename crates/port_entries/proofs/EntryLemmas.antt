@@ -1,5 +1,4 @@
--- Lemmas which say that the table has the entries of each port bit, and that the facts about pins that follow from the table are true of
--- the board.
+-- The table has the entries of each port bit, and the facts about pins that follow from the table are true of the board.
 use Rattle.std.proofs.Common.{◌≡◌, ℕ, suc, ◌<◌, ◌≤◌, ◌==◌, Bool, true, false, not, cond, ◌&&◌, ◌||◌, List, [], ◌∷◌, ◌++◌, length, get_or, replicate, Option, Some, None, unwrap_or, refl, sym, ap, ◌∙◌, arith, append_assoc, ◌⊎◌, inl, inr}
 use Rattle.std.specs.Prelude.{slice_get, option_and_then, option_map, find, All}
 use Rattle.std.specs.List.{list_any}
@@ -90,7 +89,6 @@ are_entries board rules at =
     by_part None e = refl
     by_part (Some part) e = by_kind part.kind (all_stands (λ (p : Part). IsPart p.kind) board.chain at.part part e rules.parts)
 
--- the first entry of port bit `k` that satisfies `roles` is the first of all entries that is on port bit `k` and satisfies `roles`
 find_on : (roles : Cell → Bool) (k : ℕ) (cells : List Cell)
     → find roles (entries_on cells k) ≡ find (λ cell. is_on k cell.bit && roles cell) cells
 find_on roles k [] = refl
@@ -123,7 +121,6 @@ none_on k (cell ∷ cells) = by_test (is_on k cell.bit) (none_on k cells)
     by_test false rest = rest
 
 module _ (board : RawBoard) (rows : List (List (List Cell))) (are : AreEntries board rows) (at : PinAt) where
-  -- the first driving entry that the table has for the port bit is the driving entry of the port bit
   pub driving_is : find (λ cell. is_driving cell.role) (entries_at rows at) ≡ entry_at board at
   driving_is = ap (λ (l : List Cell). find (λ cell. is_driving cell.role) l) (are at) ∙ by_device (device_at board at.part)
     where
@@ -133,7 +130,6 @@ module _ (board : RawBoard) (rows : List (List (List Cell))) (are : AreEntries b
       by_device None = refl
       by_device (Some device) = find_on (λ cell. is_driving cell.role) at.bit device.cells
 
-  -- the port bit is dark by the table if and only if it is dark
   pub dark_is : dark_by (bit_at board at) (entries_at rows at) ≡ is_dark_in (device_at board at.part) at.bit
   dark_is = ap (dark_by (bit_at board at)) (are at) ∙ by_device (device_at board at.part)
     where
@@ -160,7 +156,6 @@ module _ (board : RawBoard) (rows : List (List (List Cell))) (are : AreEntries b
       by_device None = refl
       by_device (Some device) = by_bit device (slice_get device.bits at.bit)
 
-  -- the port bit is a receiver by the table if and only if it is a receiver
   pub receives_is : receives_with (bit_at board at) (entries_at rows at) ≡ receives_in (device_at board at.part) at.bit
   receives_is = ap (receives_with (bit_at board at)) (are at) ∙ by_device (device_at board at.part)
     where
@@ -174,7 +169,6 @@ module _ (board : RawBoard) (rows : List (List (List Cell))) (are : AreEntries b
       by_device None = refl
       by_device (Some device) = by_bit device (slice_get device.bits at.bit)
 
--- a pin is dark by the table if and only if it is dark
 dark_in_is : (board : RawBoard) (rows : List (List (List Cell))) → AreEntries board rows
     → (pin : NetPin) → dark_in rows board pin ≡ is_dark board pin
 dark_in_is board rows are pin = by_at pin.at

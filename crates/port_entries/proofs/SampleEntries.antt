@@ -1,4 +1,4 @@
--- Samples of the entries of a small part and of the facts about its port bits, worked out by hand.
+-- Samples of the entries of a small part, and of the facts about its port bits that follow. The expected values are worked out by hand.
 use Rattle.std.proofs.Common.{◌≡◌, ℕ, Bool, true, false, List, [], ◌∷◌, map, replicate, Option, Some, None, refl}
 use Rattle.std.specs.Prelude.{find, option_map}
 use Rattle.board_defs.specs.declared.device.Cell.{Cell}
@@ -23,10 +23,10 @@ abbrev row : List (List Cell)
 row = entries_noted (replicate 2 [])
     (cell 0 Input (Some 1) ∷ cell 1 Control None ∷ cell 2 Input (Some 0) ∷ cell 3 Output3 (Some 1) ∷ cell 4 Output2 (Some 7) ∷ [])
 
+-- the cell numbers of the entries of a port bit
 abbrev numbers : ℕ → ℕ → List ℕ
 numbers part bit = map (λ entry. entry.num) (entries_at (row ∷ []) (record { part = part; bit = bit }))
 
--- port bit 0 has the entry of cell 2; the next samples have port bit 1 and other places
 low : numbers 0 0 ≡ 2 ∷ []
 low = refl
 

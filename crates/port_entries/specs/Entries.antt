@@ -11,7 +11,7 @@ use Rattle.board_defs.specs.Pins.{device_at}
 abbrev pub entries_on : List Cell → ℕ → List Cell
 entries_on cells bit = filter (λ cell. is_on bit cell.bit) cells
 
--- like `entries_on`, but for a device that may be missing, which has no entries
+-- like `entries_on`, but empty if there is no device
 abbrev pub entries_of : Option RawDevice → ℕ → List Cell
 entries_of None bit = []
 entries_of (Some device) bit = entries_on device.cells bit

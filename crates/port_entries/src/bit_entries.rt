@@ -21,7 +21,7 @@ pub(crate) fn blank_row(alloc: Global, count: usize) -> Result<Vec<BitEntries>, 
     Ok(row)
 }
 
-/// Adds the entry to the port bit at `place`. Does nothing past the end of the row.
+/// Adds the entry to the port bit at `place`. Does nothing if the row has no such port bit.
 fn note(alloc: Global, row: &mut [BitEntries], place: usize, cell: Cell) -> Result<(), AllocError>
     ensures { OnOk result (row.new ≡ noted row.old (Some place) cell) }
 {

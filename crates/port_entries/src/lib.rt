@@ -1,5 +1,5 @@
 //! A table of the entries of each port bit of a board's parts, and the facts about pins and nets that follow from it.
-//! With the table, no question about a pin needs a walk over all cells of its part.
+//! With the table, no function searches all cells of a part to answer a question about a pin.
 #![tactic(auto)]
 
 mod bit_entries;

@@ -17,7 +17,7 @@ pub(crate) fn find_driving(entries: &[Cell]) -> Option<Cell>
     entries.iter().copied().find(|cell| cell.role.is_driving())
 }
 
-/// Returns the driving entry of the port bit at `at`, if there is one.
+/// Returns the driving entry of the port bit at `at`, if there is one. `rows` must be the board's table of entries.
 pub fn driving_entry(rows: &[Items<BitEntries>], board: &RawBoard, at: PinAt) -> Option<Cell>
     requires { AreEntries board.now rows.now }
     ensures { result ≡ entry_at board.now at }
@@ -46,7 +46,8 @@ fn receives_there(rows: &[Items<BitEntries>], board: &RawBoard, at: PinAt) -> bo
     }
 }
 
-/// Returns whether the pin at this place of the chain is a receiver. Returns false if the pin has no place.
+/// Returns whether the pin at this place of the chain is a receiver. Returns false if the pin has no place. `rows` must
+/// be the board's table of entries.
 pub fn receives(rows: &[Items<BitEntries>], board: &RawBoard, at: Option<PinAt>) -> bool
     requires { AreEntries board.now rows.now }
     ensures { result ≡ receives_where board.now at }
@@ -93,8 +94,8 @@ fn any_dark(rows: &[Items<BitEntries>], board: &RawBoard, pins: &[NetPin]) -> bo
     pins.iter().any(|pin| is_dark(rows, board, pin))
 }
 
-/// Returns whether one of the pins is dark. If a pin of a net is dark, something that no setting controls may drive
-/// the net.
+/// Returns whether one of the pins is dark. If a pin of a net is dark, something that no setting controls may drive the
+/// net. `rows` must be the board's table of entries.
 pub fn has_dark_pin(rows: &[Items<BitEntries>], board: &RawBoard, pins: &[NetPin]) -> bool
     requires { AreEntries board.now rows.now }
     ensures { result ≡ list_any (is_dark board.now) pins.now }
@@ -114,8 +115,8 @@ fn guards_bit(bit: &PortBit, entries: &[Cell]) -> bool
     is_test_bit(bit) || is_dark_bit(bit, entries)
 }
 
-// Returns whether a pin guards its net. Looks up the port bit once for both reasons, since this function is called
-// for each pin of each net.
+// Returns whether a pin guards its net. Looks up the port bit once for both reasons, since `any_guards` calls this
+// function for each pin of each net.
 fn guards(rows: &[Items<BitEntries>], board: &RawBoard, pin: &NetPin) -> bool
     ensures { result ≡ guards_in rows.now board.now pin.now }
 {
@@ -134,7 +135,9 @@ fn any_guards(rows: &[Items<BitEntries>], board: &RawBoard, pins: &[NetPin]) -> 
     pins.iter().any(|pin| guards(rows, board, pin))
 }
 
-/// Returns whether the net is guarded. On a guarded net, only drivers that are always on may be enabled.
+/// Returns whether the net is guarded: it carries a supply, or has a pin of a test access port, a pin that compliance
+/// patterns name, or a dark pin. On a guarded net, only drivers that are always on may be enabled. `rows` must be the
+/// board's table of entries.
 pub fn is_guarded(rows: &[Items<BitEntries>], board: &RawBoard, net: &Net) -> bool
     requires { AreEntries board.now rows.now }
     ensures { result ≡ guarded board.now net.now }

@@ -54,7 +54,7 @@ pub(crate) fn entry_rows(
     Ok(Items::of(rows))
 }
 
-/// Returns the table of the entries of each port bit of each part of a board.
+/// Returns the table of the entries of each port bit of each part of a board. The board must keep the rules of boards.
 pub fn port_entries(alloc: Global, board: &RawBoard) -> Result<Items<Items<BitEntries>>, AllocError>
     requires { IsBoard board.now }
     ensures { IfOk result (λ rows. AreEntries board.now rows) }

@@ -36,11 +36,11 @@ abbrev pub dark_where : List (List (List Cell)) → RawBoard → Option PinAt �
 dark_where rows board None inert = not inert
 dark_where rows board (Some at) inert = dark_by (bit_at board at) (entries_at rows at)
 
--- the pin is dark by the table
+-- the pin is dark, judged by the table
 abbrev pub dark_in : List (List (List Cell)) → RawBoard → NetPin → Bool
 dark_in rows board pin = dark_where rows board pin.at pin.inert
 
--- the pin guards its net, by the table
+-- the pin guards its net, judged by the table
 abbrev pub guards_in : List (List (List Cell)) → RawBoard → NetPin → Bool
 guards_in rows board pin = is_test_pin board pin || dark_in rows board pin
 
