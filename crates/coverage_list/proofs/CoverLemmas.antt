@@ -1,4 +1,4 @@
--- Lemmas which say that the texts for the net numbers, joined in order, are the coverage list.
+-- The texts for the net numbers, joined in order, are the coverage list.
 use Rattle.std.proofs.Common.{◌≡◌, ℕ, zero, suc, ◌+◌, ◌-◌, Bool, true, false, not, ◌&&◌, cond, List, [], ◌∷◌, ◌++◌, length, map, filter, drop, Some, refl, sym, ap, ◌∙◌, arith}
 use Rattle.std.specs.Prelude.{slice_get}
 use Rattle.std.specs.List.{flat_map, range_with_len}
@@ -19,7 +19,6 @@ flat_map_same : {X : Type 0} (f g : X → List ℕ) → ((x : X) → f x ≡ g x
 flat_map_same f g h [] = refl
 flat_map_same f g h (x ∷ xs) = ap (λ t. t ++ flat_map f xs) (h x) ∙ ap (λ t. g x ++ t) (flat_map_same f g h xs)
 
--- joining `f x` for the items `x` that satisfy `p`, and nothing for the others, gives the joined texts of the filtered list
 texts_where : {X : Type 0} (p : X → Bool) (f : X → List ℕ) (xs : List X) → flat_map (λ x. cond (p x) (f x) []) xs ≡ flat_map f (filter p xs)
 texts_where p f [] = refl
 texts_where {X} p f (x ∷ xs) = by (p x) (texts_where p f xs)
@@ -35,7 +34,6 @@ tails : {X : Type 0} → (X → List X → List ℕ) → List X → List ℕ
 tails f [] = []
 tails f (x ∷ xs) = f x xs ++ tails f xs
 
--- if the text of number `a + i` is the text of item `i`, the texts of the numbers from `a` on, joined, are the texts of the items, joined
 numbers_are : {X : Type 0} (f : X → List X → List ℕ) (h : ℕ → List ℕ) (a : ℕ) (xs : List X)
     → ((i : ℕ) (x : X) → slice_get xs i ≡ Some x → h (a + i) ≡ f x (drop (suc i) xs))
     → flat_map h (range_with_len a (length xs)) ≡ tails f xs
@@ -60,7 +58,6 @@ slice_get-drop xs zero i = let e : 0 + i ≡ i = omega arith in ap (slice_get xs
 slice_get-drop [] (suc k) i = refl
 slice_get-drop (x ∷ xs) (suc k) i = let e : suc k + i ≡ suc (k + i) = omega arith in ap (slice_get (x ∷ xs)) e ∙ slice_get-drop xs k i
 
--- the texts of the numbers from `k` on are the texts of the items from place `k` on
 from_are : {X : Type 0} (f : X → List ℕ) (xs : List X) (k : ℕ)
     → texts_from (λ n. of_item f (slice_get xs n)) k (length xs) ≡ flat_map f (drop k xs)
 from_are {X} f xs k =
@@ -72,11 +69,9 @@ from_are {X} f xs k =
 all_are : {X : Type 0} (f : X → List ℕ) (xs : List X) → texts_from (λ n. of_item f (slice_get xs n)) 0 (length xs) ≡ flat_map f xs
 all_are f xs = from_are f xs 0
 
--- the texts for the net numbers, joined in order, are the lines of the nets that are not covered
 reasons_are : (board : RawBoard) → texts_from (reason_at board) 0 (length board.nets) ≡ reason_lines board
 reasons_are board = all_are (net_reason board) board.nets
 
--- the text of a net's pins is the lines of the net's untested pins if the net is covered, and empty if not
 net_pins_are : (board : RawBoard) (pin_use : PinUse) (net : Net)
     → untested_pin_lines board pin_use net
     ≡ cond (is_covered board net) (net_pin_lines board pin_use net) []
@@ -95,7 +90,6 @@ pins_are board pin_use =
     (net_pins_are board pin_use) board.nets
     ∙ texts_where (is_covered board) (net_pin_lines board pin_use) board.nets
 
--- for item `x`, the texts of the later items that satisfy `p` and do not fit `x`, joined, are the texts of the filtered pairs with `x`
 later_pairs : {X : Type 0} (p : X → Bool) (fit : X → X → Bool) (f : X → X → List ℕ) (x : X) (ys : List X)
     → flat_map (λ y. cond (p y && not (fit x y)) (f x y) []) ys
     ≡ flat_map (λ (pair : X × X). f pair.0 pair.1)
@@ -128,7 +122,6 @@ later_pairs {X} p fit f x (y ∷ ys) = by_pass (p y) (later_pairs p fit f x ys)
     by_pass true same = by_fit (fit x y) same
     by_pass false same = same
 
--- the texts of all items with their later items, joined, are the texts of the pairs in which both items satisfy `p` and the two do not fit
 all_pairs : {X : Type 0} (p : X → Bool) (fit : X → X → Bool) (f : X → X → List ℕ) (xs : List X)
     → tails
     (λ x later. cond (p x) (flat_map (λ y. cond (p y && not (fit x y)) (f x y) []) later) [])
@@ -187,7 +180,6 @@ pairs_are board =
     ∙ net_pairs_are board i low)
     ∙ all_pairs (is_covered board) (are_paired board) pair_line nets
 
--- the section's texts for the net numbers, joined in order, are the lines of the section
 pub section_is : (board : RawBoard) (section : Section)
     → texts_from (section_at board section) 0 (length board.nets) ≡ section_lines board section
 section_is board Reasons = reasons_are board

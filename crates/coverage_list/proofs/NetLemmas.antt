@@ -24,8 +24,6 @@ use Rattle.coverage_list.specs.inner.CoverForms.{of_item, texts_from, net_reason
 pub same_item : {X : Type 0} {o : Option X} {x y : X} → o ≡ Some x → o ≡ Some y → x ≡ y
 same_item {X} {o} {x} {y} e f = cc
 
--- Among the first `i + 1` items, the number of items that satisfy `p` is the same as among the first `i` items, plus one if item `i`
--- satisfies `p`.
 pub count_more : {X : Type 0} (p : X → Bool) (xs : List X) (i : ℕ) (x : X) → slice_get xs i ≡ Some x
     → length (filter p (take (i + 1) xs)) ≡ length (filter p (take i xs)) + cond (p x) 1 0
 count_more p xs i x e =
@@ -50,7 +48,6 @@ counted p nets i covered t less is so_far =
     ∙ ap (λ b. length (filter p (take i nets)) + cond b 1 0) (is net.0 net.1)
     ∙ sym (count_more p nets i net.0 net.1)
 
--- a net has no reason for not being covered if and only if it is covered
 pub no_reason : (board : RawBoard) (net : Net) → is_none (reason_of board net) ≡ is_covered board net
 no_reason board net = by (is_covered board net)
   where
@@ -58,7 +55,6 @@ no_reason board net = by (is_covered board net)
     by true = refl
     by false = refl
 
--- net `high` is unpaired with net `low` if and only if net `high` is covered and the two nets are not paired
 unpaired_is : (board : RawBoard) (low high : ℕ) (one two : Net)
     → slice_get board.nets low ≡ Some one → slice_get board.nets high ≡ Some two
     → unpaired_with board low high ≡ is_unpaired board one two
@@ -66,7 +62,6 @@ unpaired_is board low high one two at at' =
     ap (λ o. covered_there board o && not (pair_there board (slice_get board.nets low) o)) at'
     ∙ ap (λ o. is_covered board two && not (pair_there board o (Some two))) at
 
--- if the text of each number from `n` up to but not including `count` is empty, the joined texts are empty
 texts_empty : (f : ℕ → List ℕ) (n count : ℕ) → ((i : ℕ) → n ≤ i → i < count → f i ≡ []) → texts_from f n count ≡ []
 texts_empty f n count each = by (count - n) n (λ i past below. each i past (omega (arith, past, below)))
   where
@@ -94,7 +89,6 @@ free_pairs_none board n net at free =
     same true none = refl
     same false none = refl
 
--- bit `high % 64` of the word says whether net `high` is unpaired with net `low`
 pub bit_says : (board : RawBoard) (low high word : ℕ) (one two : Net)
     → AreWordBits (unpaired_with board low) (high / 64) word → slice_get board.nets low ≡ Some one
     → slice_get board.nets high ≡ Some two
@@ -109,7 +103,6 @@ bit_says board low high word one two are at at' =
     by_bit true = refl
     by_bit false = refl
 
--- If a word of nets that are unpaired with net `low` is 0, no net `from..end` in this word has a line with net `low`.
 pub empty_word : (board : RawBoard) (low from end word : ℕ) (one : Net)
     → AreWordBits (unpaired_with board low) (from / 64) word → word ≡ 0 → end ≤ 64 * (from / 64 + 1)
     → slice_get board.nets low ≡ Some one → texts_from (pair_at board one) from end ≡ []
@@ -127,7 +120,6 @@ empty_word board low from end word one are none most at =
         let P : ℕ → Type 0 = λ k. AreWordBits (unpaired_with board low) k word in
         ap (λ t. cond t (pair_line one other) []) (sym (bit_says board low n word one other (subst P same are) at e) ∙ unset n)
 
--- if `reason` is the reason of net `n`, its line is the text for the number `n`
 pub reason_is : (board : RawBoard) (n : ℕ) (net : Net) (reason : Option Reason)
     → slice_get board.nets n ≡ Some net → reason ≡ reason_of board net
     → reason_line net.name reason ≡ reason_at board n
@@ -160,7 +152,6 @@ pub pairs_is : (board : RawBoard) (n : ℕ) (net : Net) → slice_get board.nets
 pairs_is board n net at e =
     sym (ap (of_item (net_pairs board n)) at ∙ ap (λ t. cond t (texts_from (pair_at board net) (n + 1) (length board.nets)) []) e)
 
--- if the board keeps the rules, a net of the board has at most `most_pins` pins
 pub few_pins : (board : RawBoard) (n : ℕ) (net : Net) → IsBoard board → slice_get board.nets n ≡ Some net → length net.pins ≤ most_pins
 few_pins board n net rules at =
     let size : Net → ℕ = λ net. length net.pins in

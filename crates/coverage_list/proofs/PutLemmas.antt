@@ -1,4 +1,5 @@
--- Lemmas about texts that are written in turn. The texts that have been written, followed by the remaining texts, are the whole text.
+-- Lemmas about a loop that writes the texts of the numbers below `count` in turn. At each step, what the loop has written and the
+-- remaining texts are the whole text.
 use Rattle.std.proofs.Common.{◌≡◌, ℕ, ◌+◌, ◌-◌, ◌<◌, ◌≤◌, zero, suc, append_assoc, List, [], ◌++◌, refl, sym, ◌∙◌, ap, Result, Ok, Err, IsErr, arith}
 use Rattle.std.specs.List.{flat_map, range_with_len}
 use Rattle.bt_base.specs.Puts.{Shown}
@@ -14,7 +15,6 @@ texts_next f n count less = let e : count - n ≡ suc (count - (n + 1)) = omega 
 texts_none : (f : ℕ → List ℕ) (n count : ℕ) → count ≤ n → texts_from f n count ≡ []
 texts_none f n count past = let e : count - n ≡ 0 = omega arith in ap (λ k. flat_map f (range_with_len n k)) e
 
--- the texts of `a + b` numbers are the texts of the first `a` numbers, followed by the texts of the other `b` numbers
 range_split : (f : ℕ → List ℕ) (n a b : ℕ)
     → flat_map f (range_with_len n (a + b))
     ≡ flat_map f (range_with_len n a) ++ flat_map f (range_with_len (n + a) b)
@@ -43,8 +43,7 @@ texts_split f n m count least most =
 pub each_start : (start : Shown) (whole : List ℕ) → Completes start start whole whole
 each_start start whole new r p = p
 
--- if the texts from `n` on complete the whole text, and the text of number `n` is written, then the texts from `n + 1` on complete the
--- whole text
+-- a step that writes the text of number `n`
 pub each_ok : (f : ℕ → List ℕ) (n count : ℕ) (whole : List ℕ) {start now new : Shown}
     {r : Result (Unit {0}) PutFault} {x : Unit {0}}
     → Completes start now (texts_from f n count) whole → n < count → Prints now new [] [] (f n) r
@@ -52,7 +51,7 @@ pub each_ok : (f : ℕ → List ℕ) (n count : ℕ) (whole : List ℕ) {start n
 each_ok f n count whole {start} {now} {new} {r} {x} completes less first ok last q rest =
     completes last q (prints_same (sym (texts_next f n count less)) (prints_ok first ok rest))
 
--- if the texts from `n` on complete the whole text, and the text of number `n` is cut short, then the whole text is cut short
+-- a step that fails in the text of number `n`: the whole text is cut short
 pub each_err : (f : ℕ → List ℕ) (n count : ℕ) (whole : List ℕ) {start now new : Shown}
     {r q : Result (Unit {0}) PutFault} {e : PutFault}
     → Completes start now (texts_from f n count) whole → n < count → Prints now new [] [] (f n) r
@@ -60,8 +59,7 @@ pub each_err : (f : ℕ → List ℕ) (n count : ℕ) (whole : List ℕ) {start 
 each_err f n count whole {start} {now} {new} {r} {q} {e} completes less first err is =
     completes new q (prints_same (sym (texts_next f n count less)) (prints_err (texts_from f (n + 1) count) first err is))
 
--- if the texts from `n` on complete the whole text, and the texts of the numbers `n..m` are written, then the texts from `m` on complete
--- the whole text
+-- a step that writes the texts of the numbers `n..m`
 pub some_ok : (f : ℕ → List ℕ) (n m count : ℕ) (whole : List ℕ) {start now new : Shown}
     {r : Result (Unit {0}) PutFault} {x : Unit {0}}
     → Completes start now (texts_from f n count) whole → n ≤ m → m ≤ count
@@ -70,7 +68,7 @@ pub some_ok : (f : ℕ → List ℕ) (n m count : ℕ) (whole : List ℕ) {start
 some_ok f n m count whole {start} {now} {new} {r} {x} completes least most first ok last q rest =
     completes last q (prints_same (sym (texts_split f n m count least most)) (prints_ok first ok rest))
 
--- if the texts from `n` on complete the whole text, and the texts of the numbers `n..m` are cut short, then the whole text is cut short
+-- a step that fails in the texts of the numbers `n..m`: the whole text is cut short
 pub some_err : (f : ℕ → List ℕ) (n m count : ℕ) (whole : List ℕ) {start now new : Shown}
     {r q : Result (Unit {0}) PutFault} {e : PutFault}
     → Completes start now (texts_from f n count) whole → n ≤ m → m ≤ count
@@ -79,7 +77,7 @@ pub some_err : (f : ℕ → List ℕ) (n m count : ℕ) (whole : List ℕ) {star
 some_err f n m count whole {start} {now} {new} {r} {q} {e} completes least most first err is =
     completes new q (prints_same (sym (texts_split f n m count least most)) (prints_err (texts_from f m count) first err is))
 
--- if the texts from `n` on complete the whole text, and there is no number from `n` on, then the whole text has been written
+-- the end of the loop: no text remains, so the whole text is written
 pub each_end : (f : ℕ → List ℕ) (n count : ℕ) (whole : List ℕ) {start now : Shown}
     → Completes start now (texts_from f n count) whole → count ≤ n
     → Prints {T = Unit {0}} {E = PutFault} start now [] [] whole (Ok tt)

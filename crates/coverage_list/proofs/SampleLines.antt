@@ -12,7 +12,7 @@ counts : line_of (codes "NETS " ∷ decimal 16382 ∷ codes " COVERED " ∷ deci
 unfolding digits
 counts = refl
 
--- each reason has its line; a covered net has no reason and so no line
+-- the line of each reason; a covered net has no reason and no line
 reasons : whole
     (map (reason_line (codes "A"))
     (None ∷ Some Supply ∷ Some TestPort ∷ Some Dark ∷ Some NoDriver ∷ Some Blocked

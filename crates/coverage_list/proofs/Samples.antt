@@ -1,4 +1,4 @@
--- Samples of small boards with their coverage lists.
+-- Small sample boards with their coverage lists.
 use Rattle.std.proofs.Common.{◌≡◌, ℕ, ◌+◌, Bool, true, false, List, [], ◌∷◌, ◌++◌, Option, Some, None, refl}
 use Rattle.std.specs.Prelude.{codes}
 use Rattle.std.specs.List.{flat_map}
@@ -47,7 +47,7 @@ entry num role bit ctl = record { num = num; role = role; bit = Some bit; safe =
 abbrev control : ℕ → Cell
 control num = record { num = num; role = ControlRole; bit = None; safe = One; ctl = None }
 
--- control cell `cell`, which disables its drivers by 1
+-- control cell `cell`, which disables its drivers at 1
 abbrev by : ℕ → Option Control
 by cell = Some (record { cell = cell; disable = true })
 
@@ -63,7 +63,7 @@ ts = device (bits Outward (codes "1" ∷ [])) (entry 0 Output3 0 (by 1) ∷ cont
 abbrev bi : RawDevice
 bi = device (bits Both (codes "1" ∷ [])) (entry 0 Bidir 0 (by 1) ∷ control 1 ∷ []) 2
 
--- a device with two pairs of drivers; each pair has one control
+-- a device with two controls, each of which enables two drivers
 abbrev two : RawDevice
 two = device (bits Outward (codes "1" ∷ codes "2" ∷ codes "3" ∷ codes "4" ∷ []))
     (entry 0 Output3 0 (by 4) ∷ entry 1 Output3 1 (by 4) ∷ entry 2 Output3 2 (by 5)
@@ -73,7 +73,7 @@ two = device (bits Outward (codes "1" ∷ codes "2" ∷ codes "3" ∷ codes "4" 
 abbrev od : RawDevice
 od = device (bits Outward (codes "1" ∷ [])) (entry 0 Output2 0 (by 0) ∷ []) 1
 
--- part `k` has the name U followed by the number `k + 1`, and its pins are numbered from 1
+-- the name of part `k`: U followed by the number `k + 1`
 abbrev part_name : ℕ → List ℕ
 part_name k = 85 ∷ (49 + k) ∷ []
 
@@ -112,7 +112,7 @@ shared : cover_text (board (bi ∷ ts ∷ []) (net (codes "N") None (pin 0 0 ∷
 unfolding cover_text digits
 shared = refl
 
--- a board on which a pin of a part without a description makes its net dark, unless the part is inert
+-- A board on which a pin of a part outside the chain makes its net dark, unless the part is inert.
 abbrev beside : Bool → RawBoard
 beside inert =
     board (two ∷ rcv ∷ [])

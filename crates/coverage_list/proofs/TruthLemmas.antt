@@ -1,4 +1,4 @@
--- Lemmas which say that the answers in the coverage list are true.
+-- The answers in the coverage list are true.
 use Rattle.std.proofs.Common.{◌≡◌, ℕ, Bool, Some, refl}
 use Rattle.std.specs.Prelude.{slice_get}
 use Rattle.std.specs.Bool.{Decides}

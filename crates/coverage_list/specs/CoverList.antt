@@ -14,8 +14,8 @@ use Rattle.coverage_list.specs.declared.lines.PinUse.{PinUse}
 use Rattle.coverage_list.specs.declared.lines.PinUse.TheVariants.{Driver, Receiver}
 use Rattle.coverage_list.specs.CoverText.{reason_line, pin_line, pair_line}
 
--- The answers from which the list is made. `covered` says whether a net is covered. `reason` says why a net is not covered. `tested` says
--- whether the pin at a place of a net is tested as a driver, or as a receiver. `paired` says whether two nets are paired.
+-- Answers about nets and pins, from which the list is made. `covered` says whether a net is covered, and `reason` says why it is not.
+-- `tested` says whether the pin at a place of a net is tested as a driver, or as a receiver. `paired` says whether two nets are paired.
 pub record CoverAnswers : Type 0 where
   pub covered : Net → Bool
   pub reason : Net → Option Reason
@@ -77,7 +77,7 @@ listed_by answers board =
     ++ (untested_pins answers board Driver
     ++ (untested_pins answers board Receiver ++ unpaired_nets answers board)))
 
--- the text is the coverage list of the board, which is the list that true answers give
+-- The text is the coverage list of the board: the list that true answers give.
 pub record IsCoverList (board : RawBoard) (text : List ℕ) : Type 0 where
   pub answers : CoverAnswers
   pub truth : AreTrue board answers

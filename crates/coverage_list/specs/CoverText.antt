@@ -1,4 +1,5 @@
--- The coverage list of a board. It has the number of covered nets, and everything that no safe setting tests.
+-- The coverage list of a board. It gives the number of nets and of covered nets, and names each net that is not covered. Of the covered
+-- nets, it names each driver and receiver that no safe setting tests, and each pair of nets that no safe setting observes together.
 use Rattle.std.specs.Prelude.{ℕ, Bool, not, ◌&&◌, List, [], ◌∷◌, ◌++◌, length, codes, decimal, filter, Option, None, Some, is_some, slice_get}
 use Rattle.std.specs.List.{flat_map, range_with_len}
 use Rattle.line_printer.specs.Prints.{line_of}

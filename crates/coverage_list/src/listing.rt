@@ -16,7 +16,7 @@ use bt_base::{PutFault, Sink};
 use bt_bits::Line;
 use net_classes::{BoardClasses, Classes};
 
-/// Returns the pin at a place of a net.
+/// Returns the pin at a place of a net. The net must have a pin at this place.
 fn pin_at(net: &Net, place: u32) -> &NetPin
     requires { place < length net.now.pins }
     ensures { slice_get net.now.pins place ≡ Some result.now }
@@ -43,7 +43,7 @@ fn put_count<K: Sink>(
     put_counts(board.net_count() as u32, covered_count(board), line, out)
 }
 
-/// Writes the line of net `n` if the net is not covered, or nothing if it is covered.
+/// Writes the line of net `n` if the net is not covered, or nothing if it is covered. The board must have net `n`.
 fn put_reason_at<K: Sink>(
     board: &BoardClasses<'_>,
     n: u32,
@@ -57,7 +57,8 @@ fn put_reason_at<K: Sink>(
     put_reason(&net.name, board.reason(n), line, out)
 }
 
-/// Writes the line of the pin at a place of the net if the pin is untested in this role.
+/// Writes the line of the pin if the pin is untested in this role. `net` must be the pin's net, with a pin at this
+/// place.
 fn put_place<K: Sink>(
     board: &BoardClasses<'_>,
     pin_use: PinUse,
@@ -78,7 +79,7 @@ fn put_place<K: Sink>(
     }
 }
 
-/// Writes the lines of the net's pins that are untested in this role.
+/// Writes the lines of the net's pins that are untested in this role. `net` must be net number `n`.
 fn put_net_pins<K: Sink>(
     board: &BoardClasses<'_>,
     pin_use: PinUse,
@@ -98,7 +99,8 @@ fn put_net_pins<K: Sink>(
     Ok(())
 }
 
-/// Writes the lines of the net's pins that are untested in this role, if the net is covered.
+/// Writes the lines of the net's pins that are untested in this role, if the net is covered. The board must have net
+/// `n`.
 fn put_pins_at<K: Sink>(
     board: &BoardClasses<'_>,
     pin_use: PinUse,
@@ -117,7 +119,7 @@ fn put_pins_at<K: Sink>(
     }
 }
 
-/// Returns whether bit `place` of the word is set.
+/// Returns whether bit `place` of the word is set. `place` must be below 64.
 fn has_bit(word: u64, place: u32) -> bool
     requires { place < 64 }
     ensures { result ≡ (bit_at word place == 1) }
@@ -125,8 +127,8 @@ fn has_bit(word: u64, place: u32) -> bool
     word >> place & 1 == 1
 }
 
-/// Returns whether net `high` is covered and not paired with net `low`. `unpaired` is the word that contains the bit of net `high`. A bit
-/// in it is set if its net is covered and not paired with net `low`.
+/// Returns whether net `high` is covered and not paired with net `low`. `unpaired` must be the word with the bit of net
+/// `high`, in which a bit is set if its net is covered and not paired with net `low`.
 fn is_unpaired(board: &BoardClasses<'_>, unpaired: u64, low: u32, high: u32) -> bool
     requires { AreWordBits (unpaired_with board.now low) (high / 64) unpaired }
     ensures { HoldsOfNet board.now low
@@ -135,7 +137,8 @@ fn is_unpaired(board: &BoardClasses<'_>, unpaired: u64, low: u32, high: u32) -> 
     has_bit(unpaired, high % 64)
 }
 
-/// Writes the line of two nets if net `high` is covered and not paired with net `low`. `unpaired` is a word as for `is_unpaired`.
+/// Writes the line of nets `low` and `high` if net `high` is covered and not paired with net `low`. `unpaired` must be
+/// as for `is_unpaired`.
 fn put_pair_at<K: Sink>(
     board: &BoardClasses<'_>,
     unpaired: u64,
@@ -158,8 +161,8 @@ fn put_pair_at<K: Sink>(
     }
 }
 
-/// Writes the lines of net `low` with each net in `from..end` that is covered and not paired with net `low`. The nets `from..end` must have
-/// their bits in one word.
+/// Writes a line of net `low` with each net in `from..end` that is covered and not paired with net `low`. The board
+/// must have these nets. The nets `from..end` must have their bits in one word.
 fn put_word<K: Sink>(
     board: &BoardClasses<'_>,
     low: u32,
@@ -185,7 +188,8 @@ fn put_word<K: Sink>(
     Ok(())
 }
 
-/// Writes the lines of net `low` with each later net that is covered and not paired with net `low`.
+/// Writes a line of net `low` with each later net that is covered and not paired with net `low`. The board must have
+/// net `low`.
 fn put_later<K: Sink>(
     board: &BoardClasses<'_>,
     low: u32,
@@ -225,7 +229,7 @@ fn put_pairs_at<K: Sink>(
     }
 }
 
-/// Writes the lines of one section for one net.
+/// Writes the lines of one section for one net, which the board must have.
 fn put_at<K: Sink>(
     board: &BoardClasses<'_>,
     section: Section,
@@ -271,11 +275,11 @@ fn put_list<K: Sink>(board: &BoardClasses<'_>, line: &mut Line, out: &mut K) -> 
     put_section(board, Section::Pairs, line, out)
 }
 
-/// Writes the coverage list of a board: the number of nets and of covered nets; each net that is not covered, with its reason; the untested
-/// drivers and then the untested receivers of covered nets; and the pairs of covered nets that are not paired. The classes must be those of
-/// the board. A line of more than `MAX_LINE` bytes goes out in pieces of that size and the rest, and any other line in one put. Allocates
-/// nothing. `line` is used as a buffer, and its content afterwards is unspecified. Fails only if the sink fails, which then took a prefix
-/// of the list.
+/// Writes the coverage list of a board: the number of nets and of covered nets; each net that is not covered, with its
+/// reason; the untested drivers and then the untested receivers of covered nets; and the pairs of covered nets that are
+/// not paired. The classes must be those of the board. Each line of at most `MAX_LINE` bytes is one put. A longer line
+/// is written in pieces of `MAX_LINE` bytes and a last piece. The function allocates nothing. It uses `line` as a
+/// buffer, whose content afterwards is unspecified. Fails only if the sink fails, which then took a prefix of the list.
 pub fn write_cover<K: Sink>(
     board: &Board,
     classes: &Classes,

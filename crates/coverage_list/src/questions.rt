@@ -1,4 +1,4 @@
-// The questions about a board with its classes whose answers the coverage list needs.
+// Questions about a board with its classes. The coverage list consists of the answers.
 ghost use Rattle.std.specs.Prelude.{◌≡◌, ◌<◌, [], length, Some, true, false, slice_get};
 ghost use Rattle.board_defs.specs.Pins.{IsOnBoard};
 ghost use Rattle.board_defs.specs.Decided.{is_covered};
@@ -10,7 +10,7 @@ use crate::lines::PinUse;
 use board_defs::{Net, PinRef};
 use net_classes::BoardClasses;
 
-/// Returns net number `n`.
+/// Returns net number `n`, which must exist.
 pub fn net_at<'a>(board: &BoardClasses<'a>, n: u32) -> &'a Net
     requires { n < length board.now.nets }
     ensures { slice_get board.now.nets n ≡ Some result.now }
@@ -40,7 +40,7 @@ pub fn covered_count(board: &BoardClasses<'_>) -> u32
     covered
 }
 
-/// Returns whether the pin has this role, driver or receiver, and is not tested in it.
+/// Returns whether the pin has this role, driver or receiver, and is not tested in it. The pin must be on the board.
 pub fn is_untested(board: &BoardClasses<'_>, pin_use: PinUse, pin: PinRef) -> bool
     requires { IsOnBoard board.now pin }
     ensures { HoldsOfNet board.now pin.net
@@ -53,8 +53,9 @@ pub fn is_untested(board: &BoardClasses<'_>, pin_use: PinUse, pin: PinRef) -> bo
     }
 }
 
-/// Returns false only if the net has no line about a pair. It has none if it is not covered, or if one of its
-/// tested drivers shows that every covered net is paired with it. If the result is true, the net is covered.
+/// Returns false only if the net has no line with a later net. It has none if it is not covered, or if one of its
+/// tested drivers shows that every covered net is paired with it. If the result is true, the net is covered. The board
+/// must have the net.
 pub fn may_be_unpaired(board: &BoardClasses<'_>, n: u32) -> bool
     requires { n < length board.now.nets }
     ensures free { result ≡ false → HoldsOfNet board.now n (λ net. net_pairs board.now n net ≡ []) }

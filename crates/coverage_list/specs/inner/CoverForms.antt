@@ -1,4 +1,4 @@
--- The coverage list in the form in which the code writes it: a text for each net number.
+-- The coverage list in the form in which the code writes it: one text for each net number, joined in order.
 use Rattle.std.specs.Prelude.{ℕ, ◌+◌, ◌-◌, Bool, not, ◌&&◌, List, [], length, Option, None, Some, slice_get, cond}
 use Rattle.std.specs.List.{flat_map, range_with_len}
 use Rattle.board_defs.specs.declared.board.Net.{Net}
@@ -51,7 +51,7 @@ net_pairs board n low = cond (is_covered board low) (texts_from (pair_at board l
 abbrev pub untested_pair_lines : RawBoard → ℕ → List ℕ
 untested_pair_lines board n = of_item (net_pairs board n) (slice_get board.nets n)
 
--- the lines that a section has for the net with this number
+-- the lines of a section about the net with this number
 abbrev pub section_at : RawBoard → Section → ℕ → List ℕ
 section_at board Reasons = reason_at board
 section_at board (Untested pin_use) = untested_lines_at board pin_use

@@ -5,7 +5,7 @@ use Rattle.coverage_list.specs.inner.CoverForms.{pair_at, texts_from}
 use Rattle.line_printer.proofs.PutLemmas.{Completes}
 use Rattle.coverage_list.proofs.listing.put_later.Given as goal
 
--- the lines of net `low` with the nets from `from` on complete the text
+-- what is written so far and the lines of net `low` with the nets from `from` on are the whole text
 abbrev pub invariant-loop-from : goal.invariant-loop-from
 invariant-loop-from g l =
     (net : Net) → slice_get l.board.nets l.low ≡ Some net

@@ -5,7 +5,7 @@ use Rattle.coverage_list.specs.inner.CoverForms.{pair_at, texts_from}
 use Rattle.line_printer.proofs.PutLemmas.{Completes}
 use Rattle.coverage_list.proofs.listing.put_word.Given as goal
 
--- the lines of net `low` with the nets `high..end` complete the text
+-- what is written so far and the lines of net `low` with the nets `high..end` are the whole text
 abbrev pub invariant-loop-high : goal.invariant-loop-high
 invariant-loop-high g l =
     (net : Net) → slice_get l.board.nets l.low ≡ Some net
