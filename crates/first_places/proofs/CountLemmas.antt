@@ -6,8 +6,6 @@ use Rattle.std.specs.Cmp.{IsEquivalence}
 use Rattle.std.proofs.lemmas.List.{map-append, take_more}
 use Rattle.first_places.specs.Places.{first_place, place_or_zero}
 
--- if some key of the list `front` passes, the search in `front ++ back` finds the first key of
--- `front` that passes
 found_early : {K : Type 0} (p q : K → Bool) → ((k : K) → p k ≡ q k) → (n : ℕ) (front back : List K)
     → list_any q front ≡ true
     → position_from p n (front ++ back) ≡ Some (n + position_or_len q front)
@@ -26,7 +24,6 @@ found_early {K} p q same n (k ∷ front) back e =
         ≡ n + (1 + position_or_len q front) = omega arith in
         rest t ∙ ap Some there
 
--- if no key of the list `front` passes and the next key passes, the search finds the next key
 found_next : {K : Type 0} (p q : K → Bool) → ((k : K) → p k ≡ q k)
     → (n : ℕ) (front : List K) (k : K) (back : List K) → list_any q front ≡ false → p k ≡ true →
     position_from p n (front ++ k ∷ back) ≡ Some (n + position_or_len q front)
@@ -59,9 +56,8 @@ found_at eq laws kept rest x false e =
     ∙ found_next (λ k. eq k x) (eq x) (λ k. laws.symm k x) 0 kept x rest (sym e) (laws.refl x)
     ∙ ap Some start
 
--- if the first `i` keys have their numbers, and the keys kept so far are the different keys among
--- them, the first `i + 1` keys have their numbers after the number of key `i` among the kept keys
--- is appended
+-- A step of the loop that numbers the keys: if the first `i` keys have their numbers in `before`, the first `i + 1` keys have theirs in
+-- `after`.
 pub number_step : {K : Type 0} (eq : K → K → Bool) → IsEquivalence eq
     → (keys : List K) (i : ℕ) (x : K) (old kept rest all : List K) (was : Bool) (number : ℕ)
     (before after : List ℕ) → i < length keys → get_or keys i x ≡ x →

@@ -18,8 +18,6 @@ either true false = refl
 either false true = refl
 either false false = refl
 
--- if the old flag says whether one of the first `i` items passes the test, the new flag says so for
--- the first `i + 1` items
 pub seen_step : {I : Type 0} (test : I → Bool) (items : List I) (i : ℕ) (x : I) (new old : Bool) → i < length items → get_or items i x ≡ x →
     old ≡ list_any test (take i items) → new ≡ cond (test x) true old → new ≡ list_any test (take (i + 1) items)
 seen_step test items i x new old within read was now =
@@ -71,7 +69,7 @@ repeated_old eq items i x all within read there same =
     same ∙ ap (repeated_from eq (take i items)) (cut_at items i x within read)
     ∙ ap (λ b. cond b (Some x) (repeated_from eq (take i items ++ x ∷ []) (drop (i + 1) items))) there
 
--- item `i` is kept if and only if item `i` equals no earlier item
+-- the step of the loop for item `i`, which is kept if and only if it equals no earlier item
 pub once_step : {I : Type 0} (eq : I → I → Bool) (items : List I) (i : ℕ) (x : I)
     (done kept all : List I) (was : Bool) → i < length items → get_or items i x ≡ x →
     was ≡ list_any (λ s. eq s x) (take i items) → kept ≡ cond was done (done ++ x ∷ [])
@@ -90,7 +88,6 @@ few : {I : Type 0} (was : Bool) (kept : List I) (i : I) (n : ℕ) → length kep
 few true kept i n within = omega arith
 few false kept i n within = omega arith
 
--- a list has at least as many items as different items
 pub once_few : {I : Type 0} (eq : I → I → Bool) (seen items : List I) → length (once_from eq seen items) ≤ length items
 once_few eq seen [] = omega arith
 once_few eq seen (i ∷ items) =
@@ -126,8 +123,7 @@ whole_from {I} eq fine h seen (i ∷ items) e = by_test (whole_from eq fine h (s
         (none_finer (λ s. eq s i) (λ s. fine s i) (λ s. h s i) seen t)
         ∙ ap (λ (v : List I). i ∷ v) (rest k)
 
--- if `eq` finds no repeated item, `once` with `fine` keeps all items, if two items that differ by
--- `eq` also differ by `fine`
+-- If no item equals an earlier one by `eq`, none does by the finer equality `fine`, so `once` with `fine` keeps all items.
 pub unrepeated : {I : Type 0} (eq fine : I → I → Bool)
     → ((a b : I) → eq a b ≡ false → fine a b ≡ false) → (items : List I)
     → first_repeated eq items ≡ None → once fine items ≡ items

@@ -1,8 +1,8 @@
--- The first item of a list that breaks a rule, and the lowest number that has a property.
+-- The first item of a list that breaks a rule, and the lowest number that satisfies a predicate.
 use Rattle.std.specs.Prelude.{◌≡◌, ℕ, zero, suc, ◌+◌, ◌<◌, List, [], ◌∷◌, ◌++◌, length, Bool, true, false, if◌then◌else◌, Option, Some, None}
 
--- The number of the first of `items` that breaks the rule, if numbers are counted from 1 and the
--- items `before` are counted as well. `breaks` gets the items before an item, and the item.
+-- The number of the first item of `items` that breaks the rule, or None if no item does. Numbers count from 1 and include the items in
+-- `before`, which precede `items`. `breaks` gets the items that precede an item, and the item itself.
 abbrev pub first_from : {A : Type 0} → (List A → A → Bool) → List A → List A → Option ℕ
 first_from breaks before [] = None
 first_from breaks before (item ∷ items) =
@@ -26,14 +26,12 @@ pub record BreaksFirst {A : Type 0} (breaks : List A → A → Bool) (items : Li
   pub breaks_it : breaks before item ≡ true
   pub held : KeepsRule breaks before
 
--- if there is a number, it is the number of the first item that breaks the rule; if there is none,
--- no item breaks the rule
+-- `Some number` is the number of the first item that breaks the rule. None means that no item breaks it.
 abbrev pub IsFound : {A : Type 0} → (List A → A → Bool) → List A → Option ℕ → Type 0
 IsFound breaks items None = KeepsRule breaks items
 IsFound breaks items (Some number) = BreaksFirst breaks items number
 
--- the lowest of the `count` numbers from `from` on that has the property, or None if none of them
--- has it
+-- the lowest of the `count` numbers from `from` on that satisfies `is`, or None if none does
 abbrev pub least_from : (ℕ → Bool) → ℕ → ℕ → Option ℕ
 least_from is from zero = None
 least_from is from (suc count) = if is from then Some from else least_from is (suc from) count
@@ -41,8 +39,7 @@ least_from is from (suc count) = if is from then Some from else least_from is (s
 abbrev pub least_below : (ℕ → Bool) → ℕ → Option ℕ
 least_below is bound = least_from is 0 bound
 
--- if there is a number, it is the lowest below the bound that has the property; if there is none,
--- no number below the bound has it
+-- `Some least` is the lowest number below the bound that satisfies `is`. None means that no number below the bound does.
 abbrev pub IsLeast : (ℕ → Bool) → ℕ → Option ℕ → Type 0
 IsLeast is bound None = (n : ℕ) → n < bound → is n ≡ false
 IsLeast is bound (Some least) = (least < bound) × (is least ≡ true) × ((n : ℕ) → n < least → is n ≡ false)
