@@ -1,17 +1,17 @@
--- A reader decides a production: it finds the value of each list that the production derives, and
--- runs out of tokens exactly on the prefixes of such lists.
+-- A reader decides a production if it finds the value of each list that the production derives, and runs out of tokens exactly on the
+-- prefixes of such lists.
 use Rattle.std.proofs.Common.{◌≡◌, true, false, List, [], ◌∷◌, ◌++◌, Option, Some, None, IsSome, inl, inr, refl, sym, ◌∙◌, ap, subst, append_assoc, append-nil}
 use Rattle.grammars.specs.Production.{Production}
 use Rattle.grammars.specs.Production as production
 use Rattle.grammars.specs.inner.Reader.{Reader, Outcome, found, refused, read_on}
 use Rattle.grammars.specs.inner.Reader as reader
 
--- no tokens are left after the outcome
+-- the outcome leaves no tokens
 abbrev pub RunsOut : {T A : Type 0} → Outcome T A → Type 0
 RunsOut (found a rest) = rest ≡ []
 RunsOut (refused rest) = rest ≡ []
 
--- the reader finds the value `a` in a front of the tokens, whatever tokens follow this front
+-- the reader finds the value `a` in `front` and leaves the tokens after it, whatever these tokens are
 pub record Reads {T A : Type 0} (read : Reader T A) (tokens : List T) (a : A) (rest : List T) : Type 0 where
   pub front : List T
   pub split : tokens ≡ front ++ rest
@@ -52,7 +52,6 @@ decides_none = record {
   is_cut = λ tokens h. h;
 }
 
--- the outcome of the reader of one token does not depend on the tokens after this token
 local_value : {T A : Type 0} (value : T → Option A) (token : T) (tokens : List T) (v : Option A) → value token ≡ v
     → IsLocalAt (reader.place value) (token ∷ tokens) (reader.value_then v token tokens)
 local_value value token tokens (Some a) e =
@@ -114,8 +113,6 @@ decides_place value = record {
   is_cut = is_cut_place value;
 }
 
--- if the outcomes of two readers depend only on the tokens that they read, the same is true of the
--- reader that runs them in turn
 local_second : {T A B : Type 0} (p : Reader T A) (q : A → Reader T B) (tokens : List T) (a : A) (mid : List T) → Reads p tokens a mid
     → (o : Outcome T B) → IsLocalAt (q a) mid o → IsLocalAt (reader.in_turn p q) tokens o
 local_second p q tokens a mid h (found b rest) k = record {
@@ -143,8 +140,6 @@ local_after p q each tokens (refused rest) h = record {
   again = λ token tail more e. ap (λ o. read_on o q) (h.again token tail more e);
 }
 
--- if the reader finds a value in a whole list, it finds the same value in the list followed by any
--- more tokens
 pub reads_on : {T A : Type 0} {p : Production T A} {r : Reader T A} → Decides p r
     → (front : List T) (a : A) → r front ≡ found a [] → (more : List T)
     → r (front ++ more) ≡ found a more
@@ -161,7 +156,6 @@ nothing_left : {T A : Type 0} (r : Reader T A) (o : Outcome T A) → IsLocalAt r
 nothing_left r (found a rest) h = no_rest h.front rest h.split
 nothing_left r (refused rest) h = no_rest h.front rest h.split
 
--- a reader that gets no tokens runs out of tokens
 pub runs_out : {T A : Type 0} {p : Production T A} {r : Reader T A} → Decides p r → RunsOut (r [])
 runs_out {A} {p} {r} d = nothing_left r (r []) (d.local [])
 

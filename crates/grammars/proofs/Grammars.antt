@@ -1,4 +1,4 @@
--- The reader of each grammar decides the grammar.
+-- The reader of a grammar decides the grammar if each turn of each repetition takes at least one token.
 use Rattle.std.proofs.Common.{◌≡◌, ◌<◌, List, length, ◌⊎◌, inl, inr, sym, ◌∙◌, ap}
 use Rattle.grammars.specs.Turn.{Turn, again, last}
 use Rattle.grammars.specs.Grammar.{Grammar, place, done, in_turn, turns, production_of, reader_of_grammar}
@@ -43,8 +43,6 @@ read_grammar (turns turn before) h = record {
 pub decides_grammar : {T A : Type 0} (g : Grammar T A) → EachTurnTakes g → Decides (production_of g) (reader_of_grammar g)
 decides_grammar g h = (read_grammar g h).decides
 
--- reading any number of turns has the same outcome as reading one turn and then any number of
--- further turns
 pub turn_at : {T S A : Type 0} (turn : S → Grammar T (Turn S A))
     → ((s : S) → TakesToken (turn s) × EachTurnTakes (turn s)) → (s : S) (tokens : List T)
     → reader_of_grammar (turns turn s) tokens
@@ -52,8 +50,6 @@ pub turn_at : {T S A : Type 0} (turn : S → Grammar T (Turn S A))
     (reader.follow (λ s. reader_of_grammar (turns turn s)))
 turn_at turn h s tokens = turns_once (λ s. reader_of_grammar (turn s)) (λ s. (read_grammar (turn s) (h s).1).shrinks (h s).0) s tokens
 
--- if reading one turn leaves the state `s'` and another turn follows, reading the rest from the
--- state `s'` has the same outcome as reading all tokens from the state `s`
 pub goes_on : {T S A : Type 0} (turn : S → Grammar T (Turn S A))
     → ((s : S) → TakesToken (turn s) × EachTurnTakes (turn s))
     → (s s' : S) (tokens rest : List T) (outcome : Outcome T A)

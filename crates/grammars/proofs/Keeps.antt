@@ -1,5 +1,5 @@
--- Facts about a value that a grammar derives and about the weight of the tokens from which it is
--- derived.
+-- Facts about the values that a grammar derives. A fact may also depend on the weight of the tokens from which the value is derived: the
+-- sum of a number for each token.
 use Rattle.std.proofs.Common.{◌≡◌, ℕ, zero, suc, ◌+◌, ◌≤◌, List, [], ◌∷◌, ◌++◌, Option, Some, sym, ◌∙◌, ap, subst, arith}
 use Rattle.grammars.specs.Turn.{Turn, again, last}
 use Rattle.grammars.specs.Production.{Production, Follows}
@@ -66,8 +66,7 @@ keeps_in_turn {T} {A} {B} {weight} {p} {q} {given} {First} {Fact} first second =
   kept = kept_in_turn weight (production_of p) (λ a. production_of (q a)) given First Fact first.kept (λ a n h. (second a n h).kept);
 }
 
--- what is true after a turn: `Before` of the state if another turn follows, or `Fact` of the value
--- if this was the last turn
+-- What is true after a turn: `Before` of the state if another turn follows, or `Fact` of the value if this was the last turn.
 abbrev pub BehindTurn : {S A : Type 0} → (ℕ → S → Type 0) → (ℕ → A → Type 0) → ℕ → Turn S A → Type 0
 BehindTurn Before Fact n (again s) = Before n s
 BehindTurn Before Fact n (last a) = Fact n a
@@ -97,7 +96,6 @@ keeps_turns {T} {S} {A} {weight} {turn} {Before} {Fact} h s n before = record {
       (λ s n b. (h s n b).kept) s n before tokens a whole.1;
 }
 
--- a fact that says nothing is true of each value
 pub keeps_nothing : {T A : Type 0} {weight : T → ℕ} {g : Grammar T A} {given : ℕ} → Keeps weight g given (λ n a. Unit {0})
 keeps_nothing {T} {A} {weight} {g} {given} = record { kept = λ tokens a whole. tt }
 

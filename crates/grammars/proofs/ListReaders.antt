@@ -38,8 +38,6 @@ read_front {T} g h tokens a rest e =
     let k : Reads (reader_of_grammar g) tokens a rest = subst (λ o. IsLocalAt (reader_of_grammar g) tokens o) e (d.local tokens) in
     record { front = k.front; split = k.split; whole = d.is_whole k.front a (front_alone (reader_of_grammar g) tokens a rest k) }
 
--- if the grammar derives a front of the tokens with the value `a`, the reader finds `a` and leaves
--- the tokens after the front
 pub found_front : {T A : Type 0} (g : Grammar T A) → EachTurnTakes g
     → (tokens front back : List T) (a : A) → tokens ≡ front ++ back
     → (production_of g).Whole front a → reader_of_grammar g tokens ≡ found a back
@@ -176,7 +174,6 @@ stops_after_entry {T} {A} {entry} {more} can tokens here mid rest before one so_
     (reader_of_grammar (list_of entry more) tokens) so_far.reads
     (turn_stops_later entry more before one here mid rest e f)
 
--- if the reader refuses the tokens, the grammar derives no value from them
 pub no_value : {T A : Type 0} (g : Grammar T A) → EachTurnTakes g → (tokens rest : List T)
     → reader_of_grammar g tokens ≡ refused rest → (a : A) → (production_of g).Whole tokens a → ⊥
 no_value g h tokens rest e a whole =
@@ -225,7 +222,6 @@ wrong_after_entry {T} {A} {entry} {more} can tokens here mid rest before one so_
         (λ ts. reader_of_grammar more ts ≡ found h.next.value h.next.back) same second in
         cc (k, f)
 
--- each turn of the loop leaves fewer tokens
 pub shorter : {T A : Type 0} {entry : Grammar T A} {more : Grammar T Bool} → CanRead entry more
     → (here mid rest : List T) (before : List A) (one : A) (another : Bool)
     → reader_of_grammar entry here ≡ found one mid → reader_of_grammar more mid ≡ found another rest → length rest < length here
@@ -234,7 +230,6 @@ shorter {T} {A} {entry} {more} can here mid rest before one another e f =
     (turn_of another (before ++ one ∷ [])) here rest
     (turn_again entry more before one another here mid rest e f)
 
--- if the reader finds a value in all of the tokens, the grammar derives this value from them
 pub value_of_list : {T A : Type 0} (g : Grammar T A) → EachTurnTakes g → (tokens : List T) (a : A)
     → reader_of_grammar g tokens ≡ found a [] → (production_of g).Whole tokens a
 value_of_list g h tokens a e = (decides_grammar g h).is_whole tokens a e

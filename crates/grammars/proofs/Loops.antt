@@ -1,12 +1,11 @@
--- Lemmas about loops that read turns. A flag says whether another turn follows.
+-- Lemmas about loops that read turns. The flag `more` says whether another turn follows.
 use Rattle.std.proofs.Common.{◌≡◌, Bool, true, false, List, ◌∙◌, ap}
 use Rattle.grammars.specs.Turn.{Turn, turn_of}
 use Rattle.grammars.specs.inner.Reader.{Outcome, found}
 use Rattle.grammars.specs.Grammar.{Grammar, turns, reader_of_grammar}
 use Rattle.grammars.proofs.Grammars.{TakesToken, EachTurnTakes, goes_on, ends}
 
--- if reading one turn leaves the state `a'` and another turn follows, reading the rest from the
--- state `a'` has the same outcome as reading all tokens from the state `a`
+-- another turn follows, and reading on from the state `a'` has the outcome of reading all tokens
 pub another : {T A : Type 0} (turn : A → Grammar T (Turn A A))
     → ((a : A) → TakesToken (turn a) × EachTurnTakes (turn a))
     → (a a' : A) (more : Bool) (tokens rest : List T) (outcome : Outcome T A)
@@ -16,8 +15,7 @@ pub another : {T A : Type 0} (turn : A → Grammar T (Turn A A))
 another turn h a a' more tokens rest outcome so_far e read =
     goes_on turn h a a' tokens rest outcome so_far (read ∙ ap (λ b. found (turn_of b a') rest) e)
 
--- if no other turn follows, the outcome of reading all tokens is the value of this turn and the
--- tokens after it
+-- no other turn follows, so the outcome is the value of this turn and the tokens after it
 pub no_other : {T A : Type 0} (turn : A → Grammar T (Turn A A))
     → ((a : A) → TakesToken (turn a) × EachTurnTakes (turn a))
     → (a a' : A) (more : Bool) (tokens rest : List T) (outcome : Outcome T A)

@@ -1,4 +1,4 @@
--- Lemmas about reading any number of turns. A limit on the number of turns does not change the
+-- Lemmas about reading any number of turns, each of which takes at least one token. A limit on the number of turns does not change the
 -- outcome if it is greater than the number of tokens.
 use Rattle.std.proofs.Common.{◌≡◌, ℕ, zero, suc, ◌+◌, ◌<◌, ◌≤◌, List, [], ◌∷◌, ◌++◌, length, Option, Some, None, refl, sym, ◌∙◌, ap, subst, arith, length-append}
 use Rattle.std.proofs.lemmas.List.{append_cancel_right}
@@ -9,7 +9,7 @@ use Rattle.grammars.specs.inner.Reader.{Reader, Outcome, found, refused, read_on
 use Rattle.grammars.specs.inner.Reader as reader
 use Rattle.grammars.proofs.Exact.{RunsOut, Reads, Refuses, IsLocalAt, Decides, decides_none, decides_done, decides_bind, runs_out}
 
--- whenever the reader finds a value, it has taken at least one token
+-- whenever the reader finds a value, it takes at least one token
 abbrev pub Shrinks : {T A : Type 0} → Reader T A → Type 0
 Shrinks {T} {A} read = (tokens : List T) (a : A) (rest : List T) → read tokens ≡ found a rest → length rest < length tokens
 
@@ -38,9 +38,6 @@ record Relation (T A : Type 0) : Type 1 where
 abbrev RelatedBelow : {T S A : Type 0} → Relation T A → ℕ → (S → Reader T A) → (S → Reader T A) → Type 0
 RelatedBelow {T} {S} R n f g = (s : S) (rest : List T) → length rest < n → R.Related (f s rest) (g s rest)
 
--- if two ways to read on after a turn have related outcomes on lists of fewer than `n` tokens, and
--- the turn leaves fewer than `n` tokens, the outcomes of the turn followed by the two ways are
--- related
 related : {T S A : Type 0} (R : Relation T A) (f g : S → Reader T A) (n : ℕ) → RelatedBelow R n f g → (o : Outcome T (Turn S A))
     → ((t : Turn S A) (rest : List T) → o ≡ found t rest → length rest < n)
     → R.Related (read_on o (reader.follow f)) (read_on o (reader.follow g))
@@ -85,8 +82,6 @@ raise_out (suc n) (suc m) read d shrinks s tokens le h =
     related outs (reader.turns_up_to n read) (reader.turns_up_to m read) (length tokens)
     (λ t rest lt. raise_out n m read d shrinks t rest (omega arith)) (read s tokens) (shrinks s tokens) h
 
--- if `n` is greater than the number of tokens, reading up to `n` turns has the same outcome as
--- reading any number of turns
 enough : {T S A : Type 0} (n : ℕ) (read : S → Reader T (Turn S A)) → EachShrinks read → (s : S) (tokens : List T) → length tokens < n
     → reader.turns_up_to n read s tokens ≡ reader.turns read s tokens
 unfolding reader.turns
@@ -148,8 +143,6 @@ decides_turns {T} {S} {A} {turn} {read} d shrinks s = record {
   is_cut = λ tokens h. (suc (length tokens), (decides_up_to (suc (length tokens)) d s).is_cut tokens h);
 }
 
--- reading any number of turns has the same outcome as reading one turn and then any number of
--- further turns
 pub turns_once : {T S A : Type 0} (read : S → Reader T (Turn S A)) → EachShrinks read → (s : S) (tokens : List T)
     → reader.turns read s tokens ≡ read_on (read s tokens) (reader.follow (reader.turns read))
 unfolding reader.turns
@@ -157,7 +150,6 @@ turns_once read shrinks s tokens =
     related equal (reader.turns_up_to (length tokens) read) (reader.turns read) (length tokens)
     (λ t rest lt. enough (length tokens) read shrinks t rest lt) (read s tokens) (shrinks s tokens)
 
--- if a token fits, the reader of one token leaves fewer tokens
 shrinks_value : {T A : Type 0} (token : T) (tokens : List T) (v : Option A) (a : A) (rest : List T)
     → reader.value_then v token tokens ≡ found a rest → length rest < length (token ∷ tokens)
 shrinks_value token tokens (Some b) a rest e =
@@ -172,8 +164,7 @@ shrinks_place value (token ∷ tokens) a rest e = shrinks_value token tokens (va
 no_longer : {T A : Type 0} (r : Reader T A) (tokens : List T) (a : A) (rest : List T) → Reads r tokens a rest → length rest ≤ length tokens
 no_longer r tokens a rest h = rw h.split (omega (arith, length-append h.front rest))
 
--- whenever the reader finds a value, the tokens that it leaves are no more than the tokens that it
--- got
+-- whenever the reader finds a value, it leaves no more tokens than it got
 abbrev pub Keeps : {T A : Type 0} → Reader T A → Type 0
 Keeps {T} {A} read = (tokens : List T) (a : A) (rest : List T) → read tokens ≡ found a rest → length rest ≤ length tokens
 

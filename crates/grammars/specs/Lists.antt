@@ -1,4 +1,4 @@
--- Lists of entries, and the number of the entry at which tokens stop being a list.
+-- Lists of entries, and the number of the first wrong entry of tokens that are not a list.
 use Rattle.std.specs.Prelude.{◌≡◌, ℕ, zero, suc, ◌+◌, Bool, true, List, [], ◌∷◌, ◌++◌}
 use Rattle.grammars.specs.Turn.{Turn, turn_of}
 use Rattle.grammars.specs.Production.{Follows}
@@ -23,8 +23,8 @@ Fronts entry goes_on (suc n) tokens =
     (λ one mid. Follows (production_of goes_on)
     (λ more rest. (more ≡ true) × Fronts entry goes_on n rest) mid) tokens
 
--- The tokens are not a list, and go wrong at entry `number`, counted from 1. All earlier entries
--- are whole, and the mark after each of them says that another entry follows.
+-- The tokens are not a list. Each entry before entry `number`, counted from 1, is whole, and the mark after it says that another entry
+-- follows. This is not so for entry `number`.
 pub record GoesWrongAt {T A : Type 0} (entry : Grammar T A) (goes_on : Grammar T Bool) (number : ℕ) (tokens : List T) : Type 0 where
   pub no_value : (values : List A) → (production_of (list_of entry goes_on)).Whole tokens values → ⊥
   pub whole : ℕ

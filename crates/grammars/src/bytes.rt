@@ -40,7 +40,7 @@ fn each_agrees(bytes: &[u8], name: &[u8]) -> bool
         .all(|(byte, letter)| byte.to_ascii_uppercase() == *letter)
 }
 
-/// Returns whether the bytes in upper case are `name`.
+/// Returns whether the bytes are `name` if their lower-case letters are changed to upper case.
 #[tactic(auto, using(crate::proofs::Spelled::differs))]
 pub fn spells(bytes: &[u8], name: &[u8]) -> bool
     ensures { result ≡ bytes_eq (upper bytes.now) name.now }

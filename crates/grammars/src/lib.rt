@@ -1,5 +1,6 @@
 //! Grammars as data: the token lists that they derive, the values of these lists, and the prefixes
-//! of such lists. A law says that a reader that reads from left to right decides all three.
+//! of such lists. A reader that goes through the tokens from left to right decides all three if each
+//! turn of a repetition takes at least one token.
 //!
 //! The crate has definitions (`specs/`), their laws (`proofs/`), and functions on the bytes of one
 //! token (`bytes`).

@@ -2,8 +2,7 @@
 use Rattle.std.specs.Prelude.{ℕ, zero, suc, List, [], ◌∷◌, length, Option, Some, None}
 use Rattle.grammars.specs.Turn.{Turn, again, last}
 
--- The outcome of reading: a value and the tokens after it, or the tokens from the first that does
--- not fit on.
+-- The outcome of reading: a value and the tokens after it, or a refusal and the tokens from the first one that does not fit.
 pub data Outcome (T A : Type 0) : Type 0 where
   found : A → List T → Outcome T A
   refused : List T → Outcome T A
@@ -11,7 +10,7 @@ pub data Outcome (T A : Type 0) : Type 0 where
 abbrev pub Reader : Type 0 → Type 0 → Type 0
 Reader T A = List T → Outcome T A
 
--- the outcome of running the reader `next` on the rest if a value was found, or the refusal
+-- If a value was found, runs the reader `next` on the rest. Otherwise the outcome is the refusal.
 abbrev pub read_on : {T A B : Type 0} → Outcome T A → (A → Reader T B) → Outcome T B
 read_on (found a rest) next = next a rest
 read_on (refused rest) next = refused rest
@@ -41,6 +40,6 @@ abbrev pub turns_up_to : {T S A : Type 0} → ℕ → (S → Reader T (Turn S A)
 turns_up_to zero turn before = none
 turns_up_to (suc n) turn before = in_turn (turn before) (follow (turns_up_to n turn))
 
--- reads any number of turns: up to one turn more than there are tokens, which is always enough
+-- Reads any number of turns, up to one more than there are tokens. This limit makes no difference if each turn takes at least one token.
 unfoldable pub turns : {T S A : Type 0} → (S → Reader T (Turn S A)) → S → Reader T A
 turns turn before tokens = turns_up_to (suc (length tokens)) turn before tokens
