@@ -9,8 +9,6 @@ use Rattle.board_defs.specs.contracts.board.DrivePartialEq.TheImpl as drives
 use Rattle.board_defs.specs.Settings.{same_ctl}
 use Rattle.board_defs.proofs.ControlOrder.{same_equal, same_refl}
 
--- the comparison of two drivers decides whether they are equal
-
 drives_decided : (d e : Drive) → Decides (drives.eq-value.it d e) (d ≡ e)
 drives_decided AlwaysOn AlwaysOn = (λ h. refl, λ e. refl)
 drives_decided AlwaysOn OneSided = (λ h. cc h, λ e. cc e)

@@ -16,7 +16,6 @@ same_place a b = by_case (cases_eq a b)
     by_case (inl e) = eq-eqb a b e ∙ sym (eq-eqb b a (sym e))
     by_case (inr differ) = ne_eqb a b differ ∙ sym (ne_eqb b a (λ e. differ (sym e)))
 
--- the numbers below `k + 1` with a property are the numbers below `k` with it, and `k` itself if it has the property
 pub below_more : (p : ℕ → Bool) (k n : ℕ) → ((n == k && p k) || (ltb n k && p n)) ≡ (ltb n (k + 1) && p n)
 below_more p k n = by_order (cases_order n k)
   where

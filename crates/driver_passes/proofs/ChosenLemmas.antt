@@ -10,7 +10,6 @@ use Rattle.board_defs.proofs.ControlOrder.{same_refl}
 use Rattle.driver_passes.specs.inner.Drafts.{passing_controls}
 use Rattle.driver_passes.proofs.ControlLemmas.{after_is, ComeAfter, come_after, order_rest, order_with, insert_before, insert_front, insert_behind, none_holds}
 
--- if no place satisfies the test, no control is chosen
 pub chosen_none : (p : ℕ → Bool) (place : ℕ) (controls : List Ctl) → ((n : ℕ) → p n ≡ false) → passing_controls p place controls ≡ []
 chosen_none p place [] none = refl
 chosen_none p place (c ∷ controls) none =
@@ -50,7 +49,6 @@ chosen_order p place (c ∷ controls) order = by_test (p place) (chosen_order p 
         (chosen_after c p (suc place) controls (come_after c controls order)) rest
     by_test false rest = rest
 
--- two tests that agree on every place from the first on choose the same controls
 chosen_same : (p q : ℕ → Bool) (place : ℕ) (controls : List Ctl) → ((n : ℕ) → place ≤ n → q n ≡ p n)
     → passing_controls q place controls ≡ passing_controls p place controls
 chosen_same p q place [] same = refl
@@ -58,8 +56,7 @@ chosen_same p q place (c ∷ controls) same =
     ap (λ t. cond t (c ∷ passing_controls q (suc place) controls) (passing_controls q (suc place) controls)) (same place (omega arith)) ∙
     ap (λ v. cond (p place) (c ∷ v) v) (chosen_same p q (suc place) controls (λ n least. same n (omega (arith, least))))
 
--- if test q is true of `place` and of the places that satisfy test p, then q chooses the controls that p chooses, with the control at
--- `place` inserted
+-- Adding `place` to the test inserts the control at `place` into the chosen setting.
 pub chosen_set : (p q : ℕ → Bool) (first i place : ℕ) (controls : List Ctl) (c : Ctl)
     → IsInControlOrder controls → place ≡ first + i → ((n : ℕ) → q n ≡ (n == place || p n))
     → slice_get controls i ≡ Some c
@@ -114,7 +111,6 @@ chosen_set p q first (suc i) place (d ∷ controls) c order at more e =
     by_test true rest = ap (λ v. d ∷ v) rest ∙ sym (insert_behind c d (passing_controls p (suc first) controls) before)
     by_test false rest = rest
 
--- a control is chosen if and only if its place satisfies the test
 pub chosen_holds : (p : ℕ → Bool) (first i place : ℕ) (controls : List Ctl) (c : Ctl)
     → IsInControlOrder controls → place ≡ first + i → slice_get controls i ≡ Some c
     → holds (passing_controls p first controls) c ≡ p place
@@ -150,7 +146,6 @@ chosen_holds p first (suc i) place (d ∷ controls) c order at e =
     by_test true = ap (λ t. t || holds (passing_controls p (suc first) controls) c) (after_is d c before).2
     by_test false = refl
 
--- if the chosen controls hold a control, the list from which they are chosen holds it, too
 pub chosen_among : (p : ℕ → Bool) (place : ℕ) (controls : List Ctl) (c : Ctl)
     → holds (passing_controls p place controls) c ≡ true → holds controls c ≡ true
 chosen_among p place [] c h = h
@@ -168,8 +163,6 @@ chosen_among p place (d ∷ controls) c h = by_test (p place) (chosen_among p (s
         → holds (cond t (d ∷ rest) rest) c ≡ true → (same_ctl c d || holds controls c) ≡ true
     by_test true more k = by_part more (or_cases (same_ctl c d) (holds rest c) k)
     by_test false more k = or_right (same_ctl c d) (holds controls c) (more k)
-
--- If no place from `place` to `next - 1` satisfies the test, the controls at these places can be left out.
 
 skip_some : (p : ℕ → Bool) (place next k : ℕ) (controls : List Ctl) → next ≡ place + k
     → ((n : ℕ) → place ≤ n → n < next → p n ≡ false)
@@ -191,8 +184,6 @@ chosen_skip p controls place next least none =
     ∙ ap (passing_controls p next)
     (drop-drop (next - place) place controls ∙ ap (λ m. drop m controls) far)
 
--- If `place` satisfies the test and no place after `place` and before `next` does, the first chosen control is the one at `place`. The
--- others are chosen from `next` on.
 pub chosen_next : (p : ℕ → Bool) (controls : List Ctl) (place next : ℕ) (d : Ctl)
     → place < length controls → p place ≡ true → place + 1 ≤ next
     → ((n : ℕ) → place + 1 ≤ n → n < next → p n ≡ false) →

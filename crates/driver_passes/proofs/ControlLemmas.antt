@@ -18,7 +18,7 @@ itself_is c = grind (arith, nat_tests)
 pub order_rest : (c : Ctl) (controls : List Ctl) → IsInControlOrder (c ∷ controls) → IsInControlOrder controls
 order_rest c controls order i j d less within = order (suc i) (suc j) d (omega arith) (omega arith)
 
--- `c` precedes all of the controls
+-- every control in the list comes after `c` in control order
 abbrev pub ComeAfter : Ctl → List Ctl → Type 0
 ComeAfter c controls = All (λ d. IsTrue (precedes c d)) controls
 
@@ -30,7 +30,6 @@ order_with c controls after order i zero d less within = absurd (omega arith)
 order_with c controls after order zero (suc j) d less within = after j d (omega arith)
 order_with c controls after order (suc i) (suc j) d less within = order i j d (omega arith) (omega arith)
 
--- a control that precedes all controls of a setting is inserted at the front
 pub insert_before : (c : Ctl) (setting : List Ctl) → ComeAfter c setting → inserted c setting ≡ c ∷ setting
 insert_before c [] after = refl
 insert_before c (d ∷ setting) after =
@@ -38,24 +37,20 @@ insert_before c (d ∷ setting) after =
     ap (λ t. cond t (d ∷ inserted c setting) (cond (same_ctl c d) (d ∷ setting) (c ∷ d ∷ setting)))
     r.0 ∙ ap (λ t. cond t (d ∷ setting) (c ∷ d ∷ setting)) r.1
 
--- inserting a control that is already at the front leaves the setting unchanged
 pub insert_front : (c : Ctl) (setting : List Ctl) → inserted c (c ∷ setting) ≡ c ∷ setting
 insert_front c setting =
     ap (λ t. cond t (c ∷ inserted c setting) (cond (same_ctl c c) (c ∷ setting) (c ∷ c ∷ setting)))
     (itself_is c) ∙ ap (λ t. cond t (c ∷ setting) (c ∷ c ∷ setting)) (same_refl c)
 
--- a control that comes after the first control is inserted behind the first
 pub insert_behind : (c d : Ctl) (setting : List Ctl) → precedes d c ≡ true → inserted c (d ∷ setting) ≡ d ∷ inserted c setting
 insert_behind c d setting h = ap (λ t. cond t (d ∷ inserted c setting) (cond (same_ctl c d) (d ∷ setting) (c ∷ d ∷ setting))) h
 
--- if all controls come after `c`, the list does not hold `c`
 pub none_holds : (c : Ctl) (setting : List Ctl) → ComeAfter c setting → holds setting c ≡ false
 none_holds c [] after = refl
 none_holds c (d ∷ setting) after =
     let r : (precedes d c ≡ false) × (same_ctl c d ≡ false) × (same_ctl d c ≡ false) = after_is c d (after 0 d (omega arith)) in
     ap (λ t. t || holds setting c) r.1 ∙ none_holds c setting (λ k e less. after (suc k) e (omega arith))
 
--- a test is true of all controls of a setting with `c` inserted if and only if it is true of `c` and of all controls of the setting
 pub all_inserted : (p : Ctl → Bool) (c : Ctl) (setting : List Ctl) → list_all p (inserted c setting) ≡ (p c && list_all p setting)
 all_inserted p c [] = refl
 all_inserted p c (d ∷ setting) = by_order (all_inserted p c setting) (precedes d c) (same_ctl c d) refl
@@ -76,7 +71,6 @@ all_inserted p c (d ∷ setting) = by_order (all_inserted p c setting) (precedes
     by_order rest false true e = twice (p c) (p d) (list_all p setting) (ap p (same_equal c d e))
     by_order rest false false e = refl
 
--- what is true of all controls in a list is true of a control that the list holds
 pub holds_of : (P : Ctl → Type 0) (controls : List Ctl) (c : Ctl) → All P controls → holds controls c ≡ true → P c
 holds_of P [] c all h = cc h
 holds_of P (d ∷ controls) c all h =
@@ -86,8 +80,6 @@ holds_of P (d ∷ controls) c all h =
     by_part : (holds controls c ≡ true → P c) → (same_ctl c d ≡ true) ⊎ (holds controls c ≡ true) → P c
     by_part rest (inl same) = subst P (sym (same_equal c d same)) (all 0 d (omega arith))
     by_part rest (inr later) = rest later
-
--- controls at different places of a list in control order are different
 
 pub other_place : (controls : List Ctl) (p q : ℕ) (c e : Ctl) → IsInControlOrder controls
     → slice_get controls p ≡ Some c → slice_get controls q ≡ Some e → p ≢ q → same_ctl e c ≡ false

@@ -20,7 +20,6 @@ use Rattle.driver_passes.specs.inner.Progress.{EnableTested}
 use Rattle.driver_passes.proofs.ProgressLemmas.{drivers_are}
 use Rattle.driver_passes.proofs.PairLemmas.{one_done}
 
--- if two nets need no pass, adding a pass for them leaves the passes unchanged
 pub done_same : (board : RawBoard) (useful : List Ctl) (passes : List (List Ctl)) (a b : ℕ)
     → NeedsNoPass board passes a b
     → add_for_nets board useful passes (drivers_at board a, drivers_at board b) ≡ passes
@@ -38,7 +37,6 @@ done_same board useful passes a b (inr e) =
     either true = refl
     either false = refl
 
--- if two nets need no pass, they still need none after a pass is added for other nets
 pub done_kept : (board : RawBoard) (useful : List Ctl) (passes after : List (List Ctl))
     (nets : List Drive × List Drive) → after ≡ add_for_nets board useful passes nets
     → StaysDone board passes after
@@ -55,7 +53,6 @@ done_kept board useful passes after nets e m n (inl shown) =
     by_test false None = shown
     by_test false (Some pair) = list_any_before p passes (pair_pass board useful pair) shown
 
--- after a pass is added for two nets, the two nets need no other pass
 pub done_now : (board : RawBoard) (useful : List Ctl) (passes after : List (List Ctl)) (a b : ℕ)
     → a < length board.nets → b < length board.nets
     → after ≡ add_for_nets board useful passes (drivers_at board a, drivers_at board b)
@@ -94,8 +91,6 @@ done_now board useful passes after a b first second e =
     by_test false shown None h = inr h
     by_test false shown (Some pair) h = inl (list_any_last p passes (pair_pass board useful pair) (made pair h))
 
--- if no net before net `a` needs a pass with a later net, and net `a` needs none with a later net, then no net before net `a + 1` needs a
--- pass with a later net
 pub done_next : (board : RawBoard) (passes : List (List Ctl)) (a : ℕ) → AreDone board passes a
     → IsDoneTo board passes a (length board.nets) → AreDone board passes (a + 1)
 done_next board passes a are done m less = by_net (cases_eq m a)
@@ -104,8 +99,6 @@ done_next board passes a are done m less = by_net (cases_eq m a)
     by_net (inl same) = let P : ℕ → Type 0 = λ k. IsDoneTo board passes k (length board.nets) in subst P (sym same) done
     by_net (inr other) = are m (omega (arith, other, less))
 
--- Net `a` needs no pass with any net in `b..c` after the passes `before`, and none with net `c` after the passes `after`. If nets that need
--- no pass after `before` need none after `after`, net `a` needs no pass with any net in `b..c + 1` after `after`.
 pub with_last : (board : RawBoard) (before after : List (List Ctl)) (a b c : ℕ)
     → StaysDone board before after → ((n : ℕ) → b ≤ n → n < c → NeedsNoPass board before a n)
     → NeedsNoPass board after a c → (n : ℕ) → b ≤ n → n < c + 1 → NeedsNoPass board after a n
@@ -115,8 +108,7 @@ with_last board before after a b c stays earlier last n least below = by_net (ca
     by_net (inl same) = let P : ℕ → Type 0 = λ k. NeedsNoPass board after a k in subst P (sym same) last
     by_net (inr other) = stays a n (earlier n least (omega (arith, other, below)))
 
--- if no net in `b..b + k` needs a pass with net `a`, adding passes for the nets from `b + k` on gives the same result as for the nets from
--- `b` on
+-- Nets that need no pass with net `a` can be skipped.
 skipped : (board : RawBoard) (useful : List Ctl) (passes : List (List Ctl)) (a b k : ℕ)
     → b + k ≤ length board.nets → ((n : ℕ) → b ≤ n → n < b + k → NeedsNoPass board passes a n)
     → fold (add_for_nets board useful) passes (pairs_from board a (b + k))
@@ -141,8 +133,6 @@ skipped_to board useful passes a b c least most done =
     ∙ skipped board useful passes a b (c - b) (omega (arith, all, most))
     (λ n from below. done n from (omega (arith, below, all)))
 
--- if no net in `from..b` is wanted, net `a` needs no pass with any of these nets: each is shown together with net `a`, or the two are not
--- paired
 pub none_wanted : (board : RawBoard) (passes : List (List Ctl)) (left : List ℕ) (a from b : ℕ)
     → PairsHaveDrivers → AreLeft board passes a left → a < from → b ≤ length board.nets
     → ((n : ℕ) → from ≤ n → n < b → is_wanted board left a n ≡ false) → (n : ℕ) → from ≤ n → n < b
@@ -161,7 +151,6 @@ none_wanted board passes left a from b law are later most none n least below =
         (sym (are n (omega (arith, least, later)) (omega (arith, below, most))) ∙ shown))
     by_part (inr apart) = inr (by_found (first_pair board (drivers_at board a) (drivers_at board n)) (sym (law board a n) ∙ apart))
 
--- if net `n` is wanted, no pass shows net `n` together with net `a`
 pub unshown : (board : RawBoard) (passes : List (List Ctl)) (left : List ℕ) (a n : ℕ)
     → AreLeft board passes a left → a ≤ n → n < length board.nets → is_wanted board left a n ≡ true
     → are_shown passes (drivers_at board a) (drivers_at board n) ≡ false
@@ -169,7 +158,6 @@ unshown board passes left a n are from within e =
     not-true (are_shown passes (drivers_at board a) (drivers_at board n))
     (sym (are n from within) ∙ (and_parts (is_in left n) (pairs_with board a n) e).0)
 
--- if `b` is past the last net, no pass is added for net `a` and the nets from `b` on
 pub none_left : (board : RawBoard) (useful : List Ctl) (passes : List (List Ctl)) (a b : ℕ)
     → length board.nets ≤ b
     → fold (add_for_nets board useful) passes (pairs_from board a b) ≡ passes
@@ -179,7 +167,6 @@ none_left board useful passes a b most =
     (drop_all b (drivers_by_net board)
     (omega (arith, most, length-map board.nets (tested_drivers board))))
 
--- if net `a` needs no pass with any later net, no pass is added for net `a`
 pub none_later : (board : RawBoard) (useful : List Ctl) (passes : List (List Ctl)) (a : ℕ)
     → a < length board.nets → IsDoneTo board passes a (length board.nets)
     → passes ≡ fold (add_for_nets board useful) passes (pairs_from board a (a + 1))
@@ -188,7 +175,6 @@ none_later board useful passes a less done =
     ∙ skipped_to board useful passes a (a + 1) (length board.nets) (omega (arith, less))
     (omega arith) (λ n least below. done n (omega (arith, least)) below)
 
--- a net without tested drivers needs no pass with any other net
 pub none_tested : (board : RawBoard) (passes : List (List Ctl)) (a b : ℕ) → drivers_at board a ≡ [] → NeedsNoPass board passes a b
 none_tested board passes a b e = inr (ap (λ v. first_pair board v (drivers_at board b)) e)
 
@@ -196,7 +182,6 @@ no_others : (board : RawBoard) (drivers : List Drive) → first_pair board drive
 no_others board [] = refl
 no_others board (d ∷ drivers) = no_others board drivers
 
--- if all items satisfy test p and some item satisfies test q, some item satisfies both tests
 all_pass : {X : Type 0} (p q : X → Bool) (xs : List X) → list_all p xs ≡ true → list_any q xs ≡ true → list_any (λ x. p x && q x) xs ≡ true
 all_pass p q [] all h = h
 all_pass {X} p q (x ∷ xs) all h =
@@ -209,7 +194,6 @@ all_pass {X} p q (x ∷ xs) all h =
     by_part here rest (inl e) = or_left (p x && q x) (list_any (λ (y : X). p y && q y) xs) (and_from (p x) (q x) here e)
     by_part here rest (inr e) = or_right (p x && q x) (list_any (λ (y : X). p y && q y) xs) (rest e)
 
--- if every pass shows net `a`, and the passes enable every tested driver, net `a` needs no pass with any other net
 pub all_show : (board : RawBoard) (passes : List (List Ctl)) (a b : ℕ) → EnableTested board passes
     → list_all (shows (drivers_at board a)) passes ≡ true → b < length board.nets
     → NeedsNoPass board passes a b

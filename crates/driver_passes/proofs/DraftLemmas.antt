@@ -49,8 +49,8 @@ added_setting board before after place c order stands added =
     chosen_set (is_in before) (is_in after) 0 place place (useful_controls board) c order
     (omega arith) (λ n. added n ∙ ap (λ t. t || is_in before n) (and-true (n == place))) stands
 
--- if the set loses the places that are listed for the nets that `c` shares, it loses the places of exactly those other useful controls that
--- are not together with `c`
+-- Two different useful controls are together unless they share a net. So the places to remove are those listed for the nets that `c`
+-- shares.
 pub loses_listed : (board : RawBoard) (sharers : List (List Block)) (nets : List ℕ) (c : Ctl)
     (before after : List ℕ) → PassesAre board → DecidesTerms board → NetsAreShared
     → AreSharers board sharers → nets ≡ shared_nets board c → holds (useful_controls board) c ≡ true

@@ -1,4 +1,4 @@
--- Lemmas which say that the passes of the first step together enable every tested driver.
+-- Proofs that the passes made for the tested drivers together enable every tested driver.
 use Rattle.std.proofs.Common.{◌≡◌, ℕ, ◌++◌, ◌∷◌, [], List, fold, Some, ◌∙◌, ap, sym, subst}
 use Rattle.std.specs.Prelude.{Contains, slice_get}
 use Rattle.std.specs.List.{list_any, flat_map}

@@ -12,15 +12,12 @@ use Rattle.net_classes.specs.Pairs.{drivers_at}
 use Rattle.driver_passes.specs.inner.Progress.{drivers_from}
 use Rattle.driver_passes.proofs.ProgressLemmas.{drop_drivers}
 
--- the tested drivers from net `n` on are the tested drivers of net `n`, followed by the tested drivers from net `n + 1` on
 from_more : (board : RawBoard) (n : ℕ) → n < length board.nets → drivers_from board n ≡ drivers_at board n ++ drivers_from board (n + 1)
 from_more board n less =
     let next : suc n ≡ n + 1 = omega arith in
     ap (flat_map (λ (drivers : List Drive). drivers)) (drop_drivers board n less)
     ∙ ap (λ k. drivers_at board n ++ drivers_from board k) next
 
--- if no net before net `n` has a tested driver, and net `n` has one, the first tested driver of net `n` is the first tested driver of the
--- board
 pub first_found : (board : RawBoard) (n : ℕ) (drivers : List Drive) (d : Drive)
     → n < length board.nets → drivers ≡ drivers_at board n
     → drivers_from board n ≡ drivers_from board 0 → slice_get drivers 0 ≡ Some d
@@ -33,7 +30,6 @@ first_found board n drivers d less e same at =
     by_list [] h = cc h
     by_list (x ∷ own) h = h
 
--- if neither net `n` nor any net before it has a tested driver, the tested drivers from net `n + 1` on are all tested drivers of the board
 pub first_later : (board : RawBoard) (n : ℕ) (drivers : List Drive) → n < length board.nets
     → drivers ≡ drivers_at board n → drivers_from board n ≡ drivers_from board 0
     → slice_get drivers 0 ≡ None → drivers_from board (n + 1) ≡ drivers_from board 0
@@ -45,7 +41,6 @@ first_later board n drivers less e same at =
     empty [] h = refl
     empty (x ∷ own) h = absurd (omega (arith, slice_get_within [] 0 x h))
 
--- appending passes leaves the first pass unchanged
 behind : (first : List Ctl) (passes more : List (List Ctl)) → take 1 passes ≡ first ∷ [] → take 1 (passes ++ more) ≡ first ∷ []
 behind first [] more e = absurd (omega (arith, ap length e))
 behind first (pass ∷ passes) more e = e
@@ -98,7 +93,7 @@ first_is board d at =
         (driver_pass board useful [] head ∷ [])
         (ap (λ o. driver_pass board useful [] (unwrap_or o head) ∷ []) (sym e))
 
--- if a net has no tested drivers, no pass is added for this net with any other net
+-- A net without tested drivers gets no pass together with any other net.
 alone : (board : RawBoard) (useful : List Ctl) (others : List (List Drive))
     → fold (add_for_nets board useful) [] (map (λ drivers. ([], drivers)) others) ≡ []
 alone board useful [] = refl

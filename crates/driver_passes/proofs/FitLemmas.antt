@@ -18,7 +18,6 @@ use Rattle.driver_passes.specs.inner.Drafts.{has_number, setting_of, IsDraft}
 use Rattle.driver_passes.specs.inner.NumberSets.{is_in}
 use Rattle.driver_passes.proofs.ChosenLemmas.{chosen_set}
 
--- if `has_number` finds a number in a list, the list contains this number
 has_contains : (xs : List ℕ) (n : ℕ) → has_number xs n ≡ true → Contains xs n
 has_contains [] n h = cc h
 has_contains (x ∷ xs) n h = by_part (has_contains xs n) (or_cases (x == n) (has_number xs n) h)
@@ -90,12 +89,10 @@ holds_at [] i c e = cc e
 holds_at (d ∷ controls) zero c e = let same : d ≡ c = cc e in or_left (same_ctl c d) (holds controls c) (ap (same_ctl c) same ∙ same_refl c)
 holds_at (d ∷ controls) (suc i) c e = or_right (same_ctl c d) (holds controls c) (holds_at controls i c e)
 
--- a useful control is safe alone
 pub useful_safe : (board : RawBoard) (c : Ctl) → PassesAre board → DecidesTerms board
     → holds (useful_controls board) c ≡ true → is_safe_alone board c ≡ true
 useful_safe board c are decides h = let is : IsUseful board c = (are.said.useful c).0 h in (decides.safe c).1 is.0
 
--- adding a control that is already in the draft leaves the setting unchanged
 pub held_nothing : (board : RawBoard) (held : List ℕ) (place : ℕ) (c : Ctl) (t : Bool)
     → PassesAre board → slice_get (useful_controls board) place ≡ Some c → is_in held place ≡ true
     → setting_of board held ≡ cond t (inserted c (setting_of board held)) (setting_of board held)
@@ -108,7 +105,7 @@ held_nothing board held place c true are stands h =
     same n (inr differ) = sym (ap (λ t. t || is_in held n) (ne_eqb n place differ))
 held_nothing board held place c false are stands h = refl
 
--- a control that cannot be added leaves the setting unchanged, since it is in the draft already or does not fit
+-- A control whose place is not in `free` is in the draft already, or it does not fit.
 pub closed_nothing : (board : RawBoard) (held free : List ℕ) (place : ℕ) (c : Ctl) (t : Bool)
     → PassesAre board → IsDraft board held free → slice_get (useful_controls board) place ≡ Some c
     → is_in free place ≡ false → (joins_setting board (setting_of board held) c ≡ false → t ≡ false)
@@ -128,7 +125,6 @@ closed_nothing board held free place c t are is stands closed only = by_test (is
         (ap (λ h. not h && joins_setting board s c) (sym e)
         ∙ sym (is.free_are place c stands) ∙ closed)))
 
--- if a control can be added to the draft, the control fits the draft's setting
 pub free_fits : (board : RawBoard) (held free : List ℕ) (place : ℕ) (c : Ctl)
     → IsDraft board held free → slice_get (useful_controls board) place ≡ Some c
     → is_in free place ≡ true → joins_setting board (setting_of board held) c ≡ true

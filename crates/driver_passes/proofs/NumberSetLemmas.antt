@@ -11,7 +11,6 @@ use Rattle.std.proofs.lemmas.List.{get_or_past, get_or-set_same, get_or-set_othe
 use Rattle.net_classes.specs.Pairs.{AreWordBits}
 use Rattle.driver_passes.specs.inner.NumberSets.{IsFirstNumber, has_bit, is_in, is_of_word}
 
--- if a bit is 1 exactly when `t` is true, `has_bit` returns `t`
 pub bit_is : (word i : ℕ) (t : Bool) → bit_at word i ≡ cond t 1 0 → has_bit word i ≡ t
 bit_is word i true e = ap (λ b. b == 1) e
 bit_is word i false e = ap (λ b. b == 1) e
@@ -27,7 +26,6 @@ is_bit word i = by_bit (bit_at word i) (bit_at-lt word i)
 pub no_bit : (i : ℕ) → has_bit 0 i ≡ false
 no_bit i = ap (λ b. b == 1) (bit_at-zero i)
 
--- if an operation agrees with a test on the four pairs of bits, it agrees with the test on any two bits
 two_bits : (f : ℕ → ℕ → ℕ) (t : Bool → Bool → Bool) → (f 0 0 == 1) ≡ t false false
     → (f 0 1 == 1) ≡ t false true → (f 1 0 == 1) ≡ t true false → (f 1 1 == 1) ≡ t true true
     → (x y : ℕ) → x < 2 → y < 2 → (f x y == 1) ≡ t (x == 1) (y == 1)
@@ -38,18 +36,15 @@ two_bits f t none second first both (suc zero) (suc zero) less few = both
 two_bits f t none second first both (suc (suc x)) y less few = absurd (omega arith)
 two_bits f t none second first both x (suc (suc y)) less few = absurd (omega arith)
 
--- `a` without the bits of `b` has a bit if and only if `a` has the bit and `b` lacks the bit
 pub bit_less : (a b i : ℕ) → b < 2 ^ 64 → i < 64 → has_bit (bit_and a (bit_not w64 b)) i ≡ (has_bit a i && not (has_bit b i))
 bit_less a b i fits below =
     ap (λ x. x == 1) (bit_at_and a (bit_not w64 b) i ∙ ap (min (bit_at a i)) (bit_at_not w64 b i fits below)) ∙
     two_bits (λ x y. min x (1 - y)) (λ p q. p && not q) refl refl refl refl (bit_at a i) (bit_at b i) (bit_at-lt a i) (bit_at-lt b i)
 
--- a set has none of the numbers whose words are past the last word
 pub none_past : (words : List ℕ) (n : ℕ) → length words ≤ n / 64 → is_in words n ≡ false
 unfolding is_in
 none_past words n past = ap (λ w. has_bit w (n % 64)) (get_or_past words (n / 64) 0 past) ∙ no_bit (n % 64)
 
--- every word of a list of zeros is 0, and so is every word past its end
 zeros : (count i : ℕ) → get_or (replicate {A = ℕ} count 0) i 0 ≡ 0
 zeros zero i = refl
 zeros (suc count) zero = refl
@@ -59,12 +54,10 @@ pub none_blank : (words : List ℕ) (count n : ℕ) → words ≡ replicate coun
 unfolding is_in
 none_blank words count n e = ap (λ w. has_bit w (n % 64)) (ap (λ v. get_or v (n / 64) 0) e ∙ zeros count (n / 64)) ∙ no_bit (n % 64)
 
--- if all bits of a number's word are 1, the set has the number
 pub all_ones : (words : List ℕ) (n : ℕ) → get_or words (n / 64) 0 ≡ 2 ^ 64 - 1 → is_in words n ≡ true
 unfolding is_in
 all_ones words n e = ap (λ w. has_bit w (n % 64)) e ∙ ap (λ b. b == 1) (bit_at_ones 64 (n % 64) (omega arith))
 
--- bit i of word `number` is 1 if and only if the set has the number `64 * number + i`
 pub word_bits : (words : List ℕ) (number word : ℕ) → word ≡ get_or words number 0 → AreWordBits (is_in words) number word
 unfolding is_in
 word_bits words number word e i below =
@@ -75,21 +68,19 @@ word_bits words number word e i below =
     ∙ ap (has_bit (get_or words number 0)) place ∙ sym (ap (λ w. has_bit w i) e) in
     is_bit word i ∙ sym (ap (λ t. cond t 1 0) place_bit)
 
--- the union of two words has a bit if and only if one of the words has the bit
 pub bit_more : (a b i : ℕ) → has_bit (bit_or a b) i ≡ (has_bit b i || has_bit a i)
 bit_more a b i =
     ap (λ x. x == 1) (bit_at_or a b i)
     ∙ two_bits max (λ p q. q || p) refl refl refl refl (bit_at a i) (bit_at b i) (bit_at-lt a i)
     (bit_at-lt b i)
 
--- the intersection of two words has a bit if and only if both words have the bit
 pub bit_both : (a b i : ℕ) → has_bit (bit_and a b) i ≡ (has_bit a i && has_bit b i)
 bit_both a b i =
     ap (λ x. x == 1) (bit_at_and a b i)
     ∙ two_bits min (λ p q. p && q) refl refl refl refl (bit_at a i) (bit_at b i) (bit_at-lt a i)
     (bit_at-lt b i)
 
--- if an operation on two lists of words agrees with a test in each word, it agrees with the test for each number
+-- Carries a fact about the bits of single words over to the numbers of the sets.
 pub words_by : (t : Bool → Bool → Bool) (before after others : List ℕ) (n : ℕ)
     → (length before ≤ n / 64 → t false (is_in others n) ≡ false) → length after ≡ length before →
     (n / 64 < length before
@@ -106,8 +97,7 @@ words_by t before after others n none same each = by_place (cases_lt (n / 64) (l
         none_past after n (omega (arith, past, same)) ∙ sym (none past)
         ∙ sym (ap (λ b. t b (is_in others n)) (none_past before n past))
 
--- Word `number` of a set is replaced by `word`, whose bits are t of the old bits and the bits of `bits`. Then the new set has number n if
--- and only if t is true of whether the old set has n and whether n is one of the numbers of these bits in word `number`.
+-- Carries a fact about the bits of the changed word over to the numbers of the set.
 pub word_changed : (t : Bool → Bool → Bool) → ((b : Bool) → t b false ≡ b)
     → (words : List ℕ) (number word bits n : ℕ) → number < length words →
     has_bit word (n % 64) ≡ t (has_bit (get_or words number 0) (n % 64)) (has_bit bits (n % 64))
@@ -131,7 +121,6 @@ word_changed t same words number word bits n within e = by_word (cases_eq (n / 6
         ∙ sym (same (is_in words n))
         ∙ sym (ap (λ b. t (is_in words n) (b && bit)) (ne_eqb (n / 64) number differ))
 
--- removing numbers of a word that is past the last word changes nothing
 pub word_past : (words : List ℕ) (number bits n : ℕ) → length words ≤ number
     → is_in words n ≡ (is_in words n && not (is_of_word number bits n))
 word_past words number bits n past = by_word (cases_eq (n / 64) number)
@@ -145,7 +134,6 @@ word_past words number bits n past = by_word (cases_eq (n / 64) number)
         ∙ ap (λ t. is_in words n && not (t && has_bit bits (n % 64)))
         (sym (ne_eqb (n / 64) number differ))
 
--- the word that has only the bit at `place` has bit `i` if and only if `i` is `place`
 one_bit : (place i : ℕ) → place < 64 → has_bit (1 * 2 ^ place % 2 ^ 64) i ≡ (i == place)
 one_bit place i below =
     sym
@@ -178,7 +166,7 @@ one_number number n =
         ap (λ t. t && n % 64 == number % 64) (ne_eqb (n / 64) (number / 64) differs)
         ∙ sym (ne_eqb n number (λ one. differs (ap (λ k. k / 64) one)))
 
--- a mask of the bits from a place on keeps each of these bits
+-- The mask has the bits from `place` on.
 high_bit : (word place i : ℕ) → place < 64 → place ≤ i → i < 64
     → bit_at (bit_and word ((2 ^ 64 - 1) * 2 ^ place % 2 ^ 64)) i ≡ bit_at word i
 high_bit word place i below from within =
@@ -230,7 +218,6 @@ lowest_is word place below fits some = (
     by_order (inl less) = let zero_one : 0 ≡ 1 = sym (low_bit word place low below less) ∙ bits.1 in absurd (omega (arith, zero_one))
     by_order (inr most) = most
 
--- if the bits of a word are set for the numbers that satisfy a test, bit `i` of the word says whether number `64 * number + i` satisfies it
 passes_bit : (passes : ℕ → Bool) (number word i : ℕ) → AreWordBits passes number word → i < 64 → passes (64 * number + i) ≡ has_bit word i
 passes_bit passes number word i are below = sym (bit_is word i (passes (64 * number + i)) (are i below))
 
@@ -260,7 +247,6 @@ first_next passes from word place are first below = record {
       ∙ first.earlier (n % 64) (omega (arith, least, same)) (omega (arith, less, same, below));
 }
 
--- the smaller of two bits is 1 if and only if both truth values are true
 both_bits : (s t : Bool) → min (cond s 1 0) (cond t 1 0) ≡ cond (s && t) 1 0
 both_bits true true = refl
 both_bits true false = refl
@@ -290,7 +276,6 @@ no_bits p q number word none are i below =
     let unset : p (64 * number + i) ≡ false = passes_bit p number word i are below ∙ ap (λ w. has_bit w i) none ∙ no_bit i in
     bit_at-zero i ∙ sym (ap (λ t. cond (t && q (64 * number + i)) 1 0) unset)
 
--- if no number in `from..number` satisfies the test, and no number in `number..past` does, then no number in `from..past` does
 pub passed_more : (p : ℕ → Bool) (from number past : ℕ)
     → ((n : ℕ) → from ≤ n → n < number → p n ≡ false)
     → ((n : ℕ) → number ≤ n → n < past → p n ≡ false) → (n : ℕ) → from ≤ n → n < past → p n ≡ false

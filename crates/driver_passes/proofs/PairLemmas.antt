@@ -15,7 +15,7 @@ use Rattle.net_classes.specs.Pairs.{drivers_at, fit}
 use Rattle.driver_passes.specs.inner.Pairs.{pairs_from}
 use Rattle.driver_passes.proofs.ProgressLemmas.{drop_drivers}
 
--- true if some safe setting enables both drivers of the pair
+-- some safe setting enables both drivers of the pair
 abbrev is_fitting : RawBoard → Drive × Drive → Bool
 is_fitting board pair = are_compatible board (Some pair.0) (Some pair.1)
 
@@ -78,7 +78,7 @@ one_done board useful passes after a b less e =
     (add_for_nets board useful passes (drivers_at board a, drivers_at board b))
     (pairs_from board a k)) next)
 
--- the pairs of the nets from net `a` on
+-- the pairs of two nets from net `a` on, as the lists of their tested drivers
 abbrev pub later_pairs : RawBoard → ℕ → List (List Drive × List Drive)
 later_pairs board a = pairs_within (drop a (drivers_by_net board))
 
@@ -94,7 +94,6 @@ net_done board useful passes after a less e =
     fold-append (add_for_nets board useful) passes (pairs_from board a (suc a)) (later_pairs board (suc a)) ∙
     ap (λ k. fold (add_for_nets board useful) (fold (add_for_nets board useful) passes (pairs_from board a k)) (later_pairs board k)) next)
 
--- `add_for_nets` adds at most one pass
 pub one_more : (board : RawBoard) (useful : List Ctl) (passes : List (List Ctl))
     (nets : List Drive × List Drive)
     → length (add_for_nets board useful passes nets) ≤ length passes + 1

@@ -24,8 +24,6 @@ use Rattle.driver_passes.specs.inner.Progress.{AreHeld, is_held}
 use Rattle.driver_passes.specs.inner.NumberSets.{is_in}
 use Rattle.driver_passes.proofs.ControlLemmas.{holds_of}
 
--- if `joined` has the places in `held` and the places of the controls of `pass`, it has the places of the controls of all passes, `pass`
--- included
 pub held_more : (board : RawBoard) (passes after : List (List Ctl)) (pass : List Ctl)
     (held joined : List ℕ) → AreHeld board passes held → length joined ≡ length held
     → ((i : ℕ) (c : Ctl) → slice_get (useful_controls board) i ≡ Some c
@@ -40,12 +38,11 @@ held_more board passes after pass held joined is len join e = record {
       ∙ sym (ap (λ v. is_held v c) e ∙ list_any-append (λ pass. holds pass c) passes (pass ∷ []));
 }
 
--- some pass enables a driver that is always on exactly if there is a pass
+-- Every pass enables a driver that is always on.
 pub any_pass : (passes : List (List Ctl)) → list_any (λ pass. true) passes ≡ not (length passes == 0)
 any_pass [] = refl
 any_pass (pass ∷ passes) = sym (ap not (suc-eqb_zero (length passes)))
 
--- item `n` in the list of the tested drivers of all nets has the tested drivers of net `n`
 same_drivers : (board : RawBoard) (n : ℕ) → get_or (drivers_by_net board) n [] ≡ drivers_at board n
 same_drivers board n = by_place board.nets n
   where
@@ -57,14 +54,12 @@ same_drivers board n = by_place board.nets n
 lists_within : (board : RawBoard) (n : ℕ) → n < length board.nets → n < length (drivers_by_net board)
 lists_within board n less = omega (arith, length-map board.nets (tested_drivers board))
 
--- the lists of the drivers of the nets from `n` on begin with the list of net `n`
 pub drop_drivers : (board : RawBoard) (n : ℕ) → n < length board.nets
     → drop n (drivers_by_net board) ≡ drivers_at board n ∷ drop (suc n) (drivers_by_net board)
 drop_drivers board n less =
     drop-cons (drivers_by_net board) n [] (lists_within board n less)
     ∙ ap (λ v. v ∷ drop (suc n) (drivers_by_net board)) (same_drivers board n)
 
--- the lists of the drivers of the first `n + 1` nets end with the list of net `n`
 pub take_drivers : (board : RawBoard) (n : ℕ) → n < length board.nets
     → take (n + 1) (drivers_by_net board) ≡ take n (drivers_by_net board) ++ drivers_at board n ∷ []
 take_drivers board n less =
@@ -74,7 +69,6 @@ take_drivers board n less =
 pub drivers_are : (board : RawBoard) (n : ℕ) (net : Net) → slice_get board.nets n ≡ Some net → drivers_at board n ≡ tested_drivers board net
 drivers_are board n net e = ap (drivers_there board) e
 
--- the control cell of a useful control is a cell of the board
 pub useful_cell : (board : RawBoard) (c : Ctl) → holds (useful_controls board) c ≡ true → IsCell board c
 useful_cell board c = holds_of (IsCell board) (useful_controls board) c (useful_cells board (useful_controls board) refl)
 
@@ -95,8 +89,7 @@ passes_whole board useful passes n most e =
     (λ v. fold (add_for_driver board useful) []
     (flat_map (λ (drivers : List Drive). drivers) v)) (take_all n (drivers_by_net board) all)
 
--- if `before` results from the steps for the drivers of the first `n` nets, the steps for the drivers of net `n` then give the result of
--- the steps for the first `n + 1` nets
+-- One turn of the loop over the nets, for net `n`.
 pub drivers_more : (board : RawBoard) (step : List (List Ctl) → Drive → List (List Ctl))
     (before after : List (List Ctl)) (drivers : List Drive) (n : ℕ) → n < length board.nets
     → drivers ≡ drivers_at board n
@@ -115,7 +108,6 @@ drivers_more board step before after drivers n less e so_far more =
     (ap (flat_map (λ (v : List Drive). v)) (take_drivers board n less)
     ∙ flat_map-append (λ (v : List Drive). v) earlier (own ∷ [])))
 
--- `add_for_driver` adds at most one pass
 one_more : (board : RawBoard) (useful : List Ctl) (passes : List (List Ctl)) (d : Drive)
     → length (add_for_driver board useful passes d) ≤ length passes + 1
 one_more board useful passes d = by_test (list_any (λ pass. is_enabled pass d) passes)

@@ -11,12 +11,9 @@ use Rattle.driver_passes.specs.inner.NumberSets.{is_in}
 use Rattle.driver_passes.specs.inner.Pairs.{AreLeft}
 use Rattle.driver_passes.specs.inner.Shown.{AreShownRows, AreShownBy, AreShownByAll, shows_both}
 
--- a row that belongs to a pass belongs to any equal pass
 pub shown_as : (board : RawBoard) (made pass : List Ctl) (row : List ℕ) → pass ≡ made
     → AreShownBy board made row → AreShownBy board pass row
 shown_as board made pass row e are = let P : List Ctl → Type 0 = λ v. AreShownBy board v row in subst P (sym e) are
-
--- if each row has the nets that its pass shows, this is still true after a pass and its row are appended
 
 rows_push : (board : RawBoard) (passes : List (List Ctl)) (rows : List (List ℕ)) (pass : List Ctl)
     (row : List ℕ) → AreShownRows board passes rows → AreShownBy board pass row
@@ -32,9 +29,8 @@ pub rows_more : (board : RawBoard) (passes after : List (List Ctl))
     → rows_after ≡ rows ++ row ∷ [] → AreShownRows board after rows_after
 rows_more board passes after rows rows_after pass row are shown e f = rw (e, f) (rows_push board passes rows pass row are shown)
 
--- The lemmas up to the end say what the rows mean for the passes.
+-- The lemmas from here to the end of the file derive facts about the passes from their rows.
 
--- a row has both nets if and only if its pass shows both
 both_same : (board : RawBoard) (pass : List Ctl) (row : List ℕ) (a b : ℕ)
     → AreShownBy board pass row → a < length board.nets → b < length board.nets
     → shows_both a b row ≡ (shows (drivers_at board a) pass && shows (drivers_at board b) pass)
@@ -63,7 +59,6 @@ all_rows board (pass ∷ passes) (row ∷ rows) a are first =
     ap (λ t. t && list_all (λ (v : List ℕ). is_in v a) rows) (are.0.row_are a first)
     ∙ ap (λ t. shows (drivers_at board a) pass && t) (all_rows board passes rows a are.1 first)
 
--- if a pass is added, and the nets that the pass shows together with net `a` are removed from `left`, `AreLeft` still holds
 pub left_more : (board : RawBoard) (passes after : List (List Ctl)) (pass : List Ctl)
     (row left left_after : List ℕ) (a : ℕ) → AreLeft board passes a left → AreShownBy board pass row
     → a < length board.nets → after ≡ passes ++ pass ∷ [] →
@@ -83,7 +78,6 @@ left_more board passes after pass row left left_after a are shown first e less n
     not_or true t = refl
     not_or false t = refl
 
--- if a set has the nets that every row has, it has the nets that every pass shows
 pub always_whole : (board : RawBoard) (passes : List (List Ctl)) (rows : List (List ℕ))
     (always : List ℕ) (size : ℕ) → AreShownRows board passes rows
     → size ≡ length board.nets / 64 + 1 → length always ≡ size →
@@ -93,8 +87,6 @@ always_whole board passes rows always size are room same each = record {
   always_are = λ n within. each n (omega (arith, within, room)) ∙ all_rows board passes rows n are within;
 }
 
--- if a set has the nets that every pass so far shows, and then keeps only the nets in the row of one more pass, it has the nets that every
--- pass shows, the new pass included
 pub always_more : (board : RawBoard) (passes after : List (List Ctl)) (pass : List Ctl)
     (row always always_after : List ℕ) → AreShownByAll board passes always
     → AreShownBy board pass row → after ≡ passes ++ pass ∷ [] → length always_after ≡ length always
@@ -109,7 +101,6 @@ always_more board passes after pass row always always_after are shown e same kep
       ∙ sym (ap (list_all p) e ∙ list_all-append p passes (pass ∷ []));
 }
 
--- if `left` has the nets that no row has together with net `a`, it has the nets that no pass shows together with net `a`
 pub left_whole : (board : RawBoard) (passes : List (List Ctl)) (rows : List (List ℕ))
     (left : List ℕ) (a size : ℕ) → AreShownRows board passes rows → a < length board.nets
     → size ≡ length board.nets / 64 + 1 →

@@ -1,4 +1,4 @@
--- Samples of sets of numbers, of the numbers of one word and of blocks, and of a word of each row. The values are worked by hand.
+-- Samples of sets of numbers, blocks and columns. The expected values are worked out by hand.
 use Rattle.std.proofs.Common.{◌≡◌, ◌∙◌, ℕ, ◌+◌, ◌-◌, ◌^◌, ◌<◌, ◌≤◌, Bool, true, false, not, List, [], ◌∷◌, filter, refl, sym, ap, arith}
 use Rattle.std.specs.List.{list_all, range_with_len}
 use Rattle.std.proofs.lemmas.Bool.{not-true}
@@ -33,7 +33,7 @@ past_the_words = refl
 abbrev all : ℕ
 all = 2 ^ 64 - 1
 
--- if net 66 is removed from the set of all nets of three words, only net 66 is missing
+-- word 1 lacks bit 2, which has the value 4, so only number 64 + 2 is missing
 taken_out : filter (λ n. not (is_in (all ∷ (all - 4) ∷ all ∷ []) n)) (range_with_len 0 192) ≡ 66 ∷ []
 unfolding is_in
 taken_out = refl
@@ -46,7 +46,7 @@ of_one_word = refl
 ends_of_word : filter (is_of_word 0 (2 ^ 63 + 1)) (range_with_len 0 192) ≡ 0 ∷ 63 ∷ []
 ends_of_word = refl
 
--- word 2 without bits has no numbers
+-- no bit is set
 none_of_word : filter (is_of_word 2 0) (range_with_len 0 192) ≡ []
 none_of_word = refl
 
@@ -73,7 +73,7 @@ second_words = refl
 of_column : (column : Column) → column.number ≡ 1 → column.words.items ≡ 6 ∷ 0 ∷ 9 ∷ [] → IsColumn some_rows column
 of_column column number words = words ∙ sym (ap (λ n. words_at n some_rows) number)
 
--- if a computed check finds that no number in `from..end` satisfies the test, none of these numbers satisfies it
+-- Turns a computed check of the numbers in `from..end` into a statement about each of them.
 none_by : (passes : ℕ → Bool) (from end : ℕ)
     → list_all (λ n. not (passes n)) (range_with_len from (end - from)) ≡ true → (n : ℕ) → from ≤ n
     → n < end → passes n ≡ false

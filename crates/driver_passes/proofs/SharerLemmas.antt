@@ -16,14 +16,13 @@ use Rattle.driver_passes.specs.inner.Blocks.{has_place}
 use Rattle.driver_passes.specs.inner.Sharers.{AreSharers, AreSharersBelow}
 use Rattle.driver_passes.proofs.BlockLemmas.{below_more}
 
--- the place is added to the lists of these nets, and nothing else changes
+-- `place` is added to the list of each of these nets, and nothing else changes
 abbrev pub AreMarked : ℕ → List ℕ → List (List ℕ) → List (List ℕ) → Type 0
 AreMarked place nets before after =
     (n q : ℕ)
     → has_number (get_or after n []) q
     ≡ ((q == place && has_number nets n) || has_number (get_or before n []) q)
 
--- the nets that a control shares are nets of the board
 pub shared_within : (board : RawBoard) (c : Ctl) (nets : List ℕ) (most : ℕ)
     → nets ≡ shared_nets board c → most ≡ length board.nets → All (λ n. n < most) nets
 shared_within board c nets most e f =
@@ -34,7 +33,7 @@ shared_within board c nets most e f =
     let within : k < count = omega (arith, less, length-range_with_len 0 count) in
     omega (arith, get_or-range_with_len 0 count k d within, within, f)))
 
--- if the place `k` is added to the lists of the nets that control `k` shares, the lists have the places below `k + 1`
+-- One turn of the loop over the useful controls, for control `k`.
 pub sharers_more : (board : RawBoard) (k : ℕ) (d : Ctl) (nets : List ℕ)
     (before after : List (List ℕ)) → AreSharersBelow board k before
     → slice_get (useful_controls board) k ≡ Some d → nets ≡ shared_nets board d
@@ -60,8 +59,6 @@ sharers_more board k d nets before after are stands is size marked = record {
     same place c n at (inr other) =
         ap (λ t. t && has_number nets n) (ne_eqb place k other)
         ∙ sym (ap (λ t. t && has_number (shared_nets board c) n) (ne_eqb place k other))
-
--- if each set has the places of its list, this is still true after a set and a list with the same places are appended
 
 pub sets_more : (sets : List (List Block)) (lists : List (List ℕ)) (set : List Block)
     (list : List ℕ) → length sets ≡ length lists

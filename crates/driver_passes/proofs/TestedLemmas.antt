@@ -26,8 +26,6 @@ use Rattle.driver_passes.proofs.BlockLemmas.{below_more, same_place}
 use Rattle.driver_passes.proofs.ChosenLemmas.{chosen_next, chosen_skip}
 use Rattle.driver_passes.proofs.ControlLemmas.{other_place}
 
--- a setting with control `c` in front enables a driver if and only if `c` is the driver's control or the setting enables the driver
-
 enabled_with : (c : Ctl) (setting : List Ctl) (d : Drive) → is_enabled (c ∷ setting) d ≡ (is_by c (Some d) || is_enabled setting d)
 enabled_with c setting AlwaysOn = refl
 enabled_with c setting OneSided = refl
@@ -48,15 +46,12 @@ shows_with c setting (d ∷ drivers) =
     ∙ ap (λ t. (is_by c (Some d) || is_enabled setting d) || t) (shows_with c setting drivers) ∙
     regroup (is_by c (Some d)) (is_enabled setting d) (drives c drivers) (shows drivers setting)
 
--- a setting shows a net if and only if a tested driver of the net is always on or belongs to one of the setting's controls
 pub shows_split : (drivers : List Drive) (setting : List Ctl)
     → shows drivers setting ≡ (shows drivers [] || list_any (λ c. drives c drivers) setting)
 shows_split drivers [] = sym (or-false (shows drivers []))
 shows_split drivers (c ∷ setting) =
     shows_with c setting drivers ∙ ap (λ t. drives c drivers || t) (shows_split drivers setting)
     ∙ or_swap (drives c drivers) (shows drivers []) (list_any (λ e. drives e drivers) setting)
-
--- a list with `m` appended has `m` and the numbers of the list, and no other number
 
 number_end : (numbers : List ℕ) (m n : ℕ) → has_number (numbers ++ m ∷ []) n ≡ (n == m || has_number numbers n)
 number_end numbers m n =
@@ -81,8 +76,6 @@ not_held (d ∷ controls) zero c e none at =
     let same : d ≡ c = cc at in
     sym (ap (same_ctl e) same) ∙ (or_parts (same_ctl e d) (holds controls e) none).0
 not_held (d ∷ controls) (suc p) c e none at = not_held controls p c e (or_parts (same_ctl e d) (holds controls e) none).1 at
-
--- if no useful control satisfies the test, noting the net changes none of the lists
 
 pub not_noted : (board : RawBoard) (lists : List (List ℕ)) (net : ℕ) (by : Ctl → Bool)
     → ((place : ℕ) (c : Ctl) → slice_get (useful_controls board) place ≡ Some c → by c ≡ false)
@@ -133,7 +126,7 @@ noted_more board start before after net by more one two place c at n =
     by_test true false b x = refl
     by_test false a b x = refl
 
--- if the lists have the nets below `net`, and net `net` is noted for its drivers, they have the nets below `net + 1`
+-- One turn of the loop over the nets, for net `net`.
 pub listed_more : (board : RawBoard) (net : ℕ) (before after : List (List ℕ)) (drivers : List Drive)
     → AreListed board net before → length after ≡ length before → drivers ≡ drivers_at board net
     → AreNoted board net (λ c. drives c drivers) before after → AreListed board (net + 1) after
@@ -146,7 +139,7 @@ listed_more board net before after drivers are size e noted = record {
       ∙ below_more (λ m. drives c (drivers_at board m)) net n;
 }
 
--- if a net is noted for its first `i` drivers, and then for driver `i`, it is noted for its first `i + 1` drivers
+-- One turn of the loop over the drivers of a net, for driver `i`.
 pub noted_next : (board : RawBoard) (drivers : List Drive) (i net : ℕ)
     (start before after : List (List ℕ)) → i < length drivers
     → AreNoted board net (λ c. drives c (take i drivers)) start before
@@ -165,7 +158,7 @@ noted_next board drivers i net start before after less one two place c at n =
         ∙ ap (λ t. drives d (take i drivers) || t)
         (or-false (is_by d (Some (get_or drivers i AlwaysOn))))
 
--- The lemmas up to the end say which nets a row has after the nets of one more control are added.
+-- The lemmas from here to the end of the file are about the row of a pass, to which the nets of one control after another are added.
 
 -- some control of the pass, at this place or later, controls a tested driver of the net
 abbrev pub left_from : RawBoard → List ℕ → ℕ → ℕ → Bool
@@ -173,7 +166,6 @@ left_from board held place n =
     list_any (λ c. drives c (drivers_at board n))
     (passing_controls (is_in held) place (drop place (useful_controls board)))
 
--- if no place from `place` up to `next` is in the set, the controls at these places show no net
 pub left_skip : (board : RawBoard) (held : List ℕ) (place next n : ℕ) → place ≤ next
     → ((m : ℕ) → place ≤ m → m < next → is_in held m ≡ false)
     → left_from board held place n ≡ left_from board held next n

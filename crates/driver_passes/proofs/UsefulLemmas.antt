@@ -1,4 +1,4 @@
--- Lemmas which say that the passes hold only useful controls.
+-- Proofs that the passes hold only useful controls.
 use Rattle.std.proofs.Common.{◌≡◌, ◌⊎◌, inl, inr, ℕ, zero, suc, true, List, [], ◌∷◌, ◌++◌, Some, sym, ◌∙◌, ap}
 use Rattle.std.specs.Prelude.{slice_get}
 use Rattle.board_defs.specs.declared.board.Ctl.{Ctl}
@@ -20,7 +20,6 @@ last_or_earlier [] last pass (suc x) h = cc h
 last_or_earlier (first ∷ passes) last pass zero h = inl h
 last_or_earlier (first ∷ passes) last pass (suc x) h = last_or_earlier passes last pass x h
 
--- if the passes so far and one more pass hold only useful controls, so do all of these passes
 pub useful_more : (board : RawBoard) (passes after : List (List Ctl)) (pass : List Ctl)
     → HoldUseful board passes → ((c : Ctl) → holds pass c ≡ true → IsUseful board c)
     → after ≡ passes ++ pass ∷ [] → HoldUseful board after
@@ -32,7 +31,6 @@ useful_more board passes after last hold useful e x pass c h k =
     by_part (inl here) = hold x pass c here k
     by_part (inr same) = useful c (ap (λ (v : List Ctl). holds v c) same ∙ k)
 
--- the controls that are chosen from the useful controls are useful
 pub chosen_useful : (board : RawBoard) (held : List ℕ) (c : Ctl) → PassesAre board
     → holds (setting_of board held) c ≡ true → IsUseful board c
 chosen_useful board held c are h = (are.said.useful c).0 (chosen_among (is_in held) 0 (useful_controls board) c h)

@@ -1,4 +1,4 @@
--- Lemmas about walks that skip the controls which they would not add.
+-- Lemmas about walks. A walk may skip the controls that it would not add.
 use Rattle.std.proofs.Common.{◌≡◌, ℕ, zero, suc, ◌+◌, ◌-◌, ◌≤◌, ◌<◌, Bool, true, false, not, ◌&&◌, List, [], ◌∷◌, length, get_or, drop, drop-cons, drop-drop, Some, refl, sym, ◌∙◌, ap, arith, cond}
 use Rattle.std.specs.Prelude.{slice_get}
 use Rattle.std.proofs.Math.Bool.{and-false}
@@ -19,7 +19,7 @@ use Rattle.driver_passes.proofs.FitLemmas.{closed_nothing, free_fits}
 abbrev pub stepped : (List Ctl → Ctl → Bool) → List Ctl → Ctl → List Ctl
 stepped accepts s c = cond (accepts s c) (inserted c s) s
 
--- the steps over the controls at these places leave the setting unchanged
+-- the steps over the controls at the places `from..next` leave the setting `s` unchanged
 abbrev pub ArePassed : (List Ctl → Ctl → Bool) → List Ctl → List Ctl → ℕ → ℕ → Type 0
 ArePassed accepts controls s from next = (n : ℕ) (c : Ctl) → from ≤ n → n < next → slice_get controls n ≡ Some c → s ≡ stepped accepts s c
 
@@ -59,7 +59,6 @@ walk_next accepts controls s place d within =
     ∙ ap (λ k. walk accepts (drop k controls) (stepped accepts s (get_or controls place d)))
     (sym next)
 
--- if the walk accepts the control at `place`, its step adds this control to the setting
 pub walk_adds : (accepts : List Ctl → Ctl → Bool) (controls before after : List Ctl) (place : ℕ)
     (c : Ctl) → slice_get controls place ≡ Some c → accepts before c ≡ true
     → after ≡ inserted c before
@@ -70,7 +69,6 @@ walk_adds accepts controls before after place c at fit e =
     (ap (stepped accepts before) (get_or_from_slice_get controls place c c at) ∙ ap
     (λ t. cond t (inserted c before) before) fit ∙ sym e))
 
--- if no control from place `from` up to `next` can be added, the second walk may begin at `next`
 pub second_passes : (board : RawBoard) (held free : List ℕ) (from next : ℕ) → PassesAre board
     → IsDraft board held free → from ≤ next → ((n : ℕ) → from ≤ n → n < next → is_in free n ≡ false)
     →
@@ -82,7 +80,6 @@ second_passes board held free from next are is least closed =
     (λ n c low less at. closed_nothing board held free n c
     (joins_setting board (setting_of board held) c) are is at (closed n low less) (λ f. f))
 
--- if each control from place `from` up to `next` cannot be added or is in an earlier pass, the first walk may begin at `next`
 pub first_passes : (board : RawBoard) (held free : List ℕ) (passes : List (List Ctl))
     (earlier : List ℕ) (from next : ℕ) → PassesAre board → IsDraft board held free
     → AreHeld board passes earlier → from ≤ next →
@@ -111,7 +108,6 @@ first_passes board held free passes earlier from next are is known least closed 
         ∙ sym (ap (λ t. t && not (is_in earlier n)) o) ∙ shut in
         sym (ap (λ t. cond t (inserted c s) s) (ap (λ t. t && joins_setting board s c) old))
 
--- the first walk accepts a control that can be added and is in no earlier pass
 pub new_fits : (board : RawBoard) (held free : List ℕ) (passes : List (List Ctl)) (earlier : List ℕ)
     (place : ℕ) (c : Ctl) → IsDraft board held free → AreHeld board passes earlier
     → slice_get (useful_controls board) place ≡ Some c
@@ -125,9 +121,8 @@ new_fits board held free passes earlier place c is known at h =
     (ap not (sym (known.held_are place c at)) ∙ both.1)
     (free_fits board held free place c is at both.0)
 
--- The lemmas up to the end are about the walks of a draft, which has the board and the setting together.
+-- In the lemmas from here to the end of the file, a walk starts from a draft, which has both the board and the setting.
 
--- if no control between the two places can be added, the walk goes on behind the second place after it adds the control there
 pub second_adds : (board : RawBoard) (held free : List ℕ) (after : Drafted) (from place : ℕ)
     (c : Ctl) → PassesAre board → IsDraft board held free → from ≤ place
     → ((n : ℕ) → from ≤ n → n < place → is_in free n ≡ false) →

@@ -1,4 +1,4 @@
-// Nets with the same tested drivers. A pass that shows one of these nets shows all of them.
+// Finds nets with the same tested drivers. A pass that shows one of two such nets also shows the other.
 ghost use Rattle.std.specs.Prelude.{◌≡◌, ◌≤◌, ◌<◌, length, true, IfOk, IfSome};
 ghost use Rattle.board_defs.specs.Passes.{useful_controls};
 ghost use Rattle.driver_passes.specs.inner.Alike.{AreAlike};
@@ -39,8 +39,8 @@ fn like_of(board: &BoardClasses<'_>, other: usize, net: usize) -> usize
     }
 }
 
-/// Returns, for each net, an earlier net with the same tested drivers, or the net itself. Only the latest net whose
-/// first tested driver has the same control is tried.
+/// Returns, for each net, an earlier net with the same tested drivers, or the net itself. Compares each net with at
+/// most one earlier net: the latest one whose first tested driver has the same control, or net 0 if there is none.
 pub fn likes_of(alloc: Global, board: &BoardClasses<'_>) -> Result<Vec<u32>, AllocError>
     ensures { IfOk result (λ likes. AreAlike board.now likes.items) }
 {

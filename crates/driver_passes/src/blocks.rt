@@ -1,4 +1,4 @@
-// Sets of places that are made of blocks. A block has the places of one word.
+// Sets of places in the list of useful controls, stored as blocks. A block has the places of one word.
 ghost use Rattle.std.specs.Prelude.{◌≡◌, ◌/◌, ◌==◌, ◌||◌, ℕ, IfOk, OnOk};
 ghost use Rattle.driver_passes.specs.inner.Blocks.{block_has, has_place};
 ghost use Rattle.driver_passes.specs.inner.Drafts.{has_number};
@@ -6,17 +6,17 @@ ghost use Rattle.driver_passes.specs.inner.Drafts.{has_number};
 use lists::Items;
 use std::alloc::{AllocError, Global};
 
-/// A block: the places of a set that belong to one word. Place `n` has bit `n % 64` of word `n / 64`.
+/// The places of a set that belong to one word. Place `n` has bit `n % 64` of word `n / 64`.
 #[derive(Clone, Copy, Drop)]
 pub struct Block {
     pub word: usize,
     pub bits: u64,
 }
 
-/// A set of places. One step removes a whole block from another set, which is fast when many controls share a net.
+/// A set of places. A `NumberSet` can lose a whole block in one step, which is fast when many controls share a net.
 pub type Blocks = Items<Block>;
 
-/// Returns the block with this place alone.
+/// Returns the block that has only this place.
 fn block_of(place: usize) -> Block
     ensures { (q : ℕ) → block_has result q ≡ (place == q) }
 {
@@ -26,7 +26,7 @@ fn block_of(place: usize) -> Block
     }
 }
 
-/// Returns the block with one more place, which must belong to the same word.
+/// Returns the block with one more place, which must belong to the block's word.
 fn with_place(block: Block, place: usize) -> Block
     requires { place / 64 ≡ block.word }
     ensures { (q : ℕ) → block_has result q ≡ (block_has block q || place == q) }
@@ -37,7 +37,7 @@ fn with_place(block: Block, place: usize) -> Block
     }
 }
 
-/// Appends the block if it has a place.
+/// Appends the block unless it is empty.
 fn push_some(blocks: &mut Blocks, block: Block) -> Result<(), AllocError>
     ensures { OnOk result ((q : ℕ) →
         has_place blocks.new q ≡ (has_place blocks.old q || block_has block q)) }
@@ -48,8 +48,9 @@ fn push_some(blocks: &mut Blocks, block: Block) -> Result<(), AllocError>
     Ok(())
 }
 
-/// Adds a place to the set of `blocks` and `last`. `last` is the last block, which is not in `blocks` yet. Returns the
-/// new last block. If the place belongs to another word, `last` goes into `blocks` first.
+/// Adds a place to the set that consists of `blocks` and the block `last`. If the place belongs to the word of `last`,
+/// returns `last` with this place. Otherwise, appends `last` to `blocks` and returns a new block that has only this
+/// place.
 fn next_block(blocks: &mut Blocks, last: Block, place: usize) -> Result<Block, AllocError>
     ensures { IfOk result (λ block. (q : ℕ) → (has_place blocks.new q || block_has block q)
         ≡ ((has_place blocks.old q || block_has last q) || place == q)) }
@@ -61,7 +62,7 @@ fn next_block(blocks: &mut Blocks, last: Block, place: usize) -> Result<Block, A
     Ok(block_of(place))
 }
 
-/// Returns the set of these places. If the places are in order, the set has one block for each word.
+/// Returns the set of these places. If the places are in ascending order, the set has at most one block for each word.
 pub fn blocks_of(alloc: Global, places: &[usize]) -> Result<Blocks, AllocError>
     ensures { IfOk result (λ blocks. (q : ℕ) → has_place blocks q ≡ has_number places.now q) }
 {

@@ -1,19 +1,20 @@
-// A column: one word of each row. The word says which of 64 nets the pass of the row shows.
+// A column: one word of the row of each pass. The row of a pass is the set of the nets that the pass shows, that is,
+// the nets of which it enables a tested driver.
 ghost use Rattle.std.specs.Prelude.{◌≡◌, ◌∷◌, ◌++◌, List, ℕ, [], IfOk, OnOk};
 ghost use Rattle.driver_passes.specs.inner.Shown.{IsColumn, words_at};
 
 use crate::number_set::NumberSet;
 use std::alloc::{AllocError, Global};
 
-/// The word with number `number` of each pass's row. These words are next to each other in memory, so looking up a
-/// net in all of these words is fast. The rows themselves are far apart.
+/// Word `number` of each pass's row. These words are next to each other in memory, so looking up one net in all of them
+/// is fast. The rows themselves are far apart.
 #[derive(Drop)]
 pub struct Column {
     pub number: usize,
     pub words: Vec<u64>,
 }
 
-/// Returns the word with this number of each row.
+/// Returns word `number` of each row.
 fn words_of(alloc: Global, rows: &[NumberSet], number: usize) -> Result<Vec<u64>, AllocError>
     ensures { IfOk result (λ words. words.items ≡ words_at number rows.now) }
 {
@@ -25,7 +26,7 @@ fn words_of(alloc: Global, rows: &[NumberSet], number: usize) -> Result<Vec<u64>
 }
 
 impl Column {
-    /// Returns the column with the first word of each row.
+    /// Returns the column that has word 0 of each row.
     pub fn new(alloc: Global, rows: &[NumberSet]) -> Result<Column, AllocError>
         ensures { IfOk result (IsColumn rows.now) }
     {
@@ -33,7 +34,8 @@ impl Column {
         Ok(Column { number: 0, words })
     }
 
-    /// Reads the words with this number, unless the column has these words already.
+    /// Replaces the words with word `number` of each row, unless the column already has these words. The column must
+    /// belong to these rows.
     pub fn look_at(
         &mut self,
         alloc: Global,
@@ -51,7 +53,7 @@ impl Column {
         Ok(())
     }
 
-    /// Adds the word of a row that is appended to the rows.
+    /// Appends the word of `row`. The column then belongs to the rows with `row` appended.
     pub fn add(&mut self, row: &NumberSet) -> Result<(), AllocError>
         ensures { OnOk result ((rows : List (List ℕ)) → IsColumn rows self.old →
             IsColumn (rows ++ row.now ∷ []) self.new) }

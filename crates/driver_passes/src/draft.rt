@@ -15,14 +15,15 @@ use board_defs::{Ctl, Drive, Setting};
 use std::alloc::{AllocError, Global};
 use std::marker::Model;
 
-/// A pass that is being made. Contracts see it as its board and the setting so far.
+/// A pass that is being made. Its value in contracts is its board and the setting so far. A control is *useful* if it
+/// is safe alone and enables a tested driver. Two controls are *together* if the setting with just these two is safe.
 #[derive(Drop)]
 pub struct Draft<'a, 'b> {
     pub(crate) board: &'a BoardTables<'b>,
-    /// The places of the useful controls in the pass.
+    /// The places, in the list of useful controls, of the controls in the pass.
     pub(crate) held: NumberSet,
-    /// The places of the useful controls that can be added. Each such control is together with every control in the
-    /// pass.
+    /// The places of the useful controls that can be added: they are not in the pass, and they are together with every
+    /// control in the pass.
     pub(crate) free: NumberSet,
 }
 
@@ -36,7 +37,7 @@ impl<'a, 'b> Model for Draft<'a, 'b> {
     ghost invariant = { λ a. IsDraft a.board.now a.held a.free };
 }
 
-/// Returns a set with all places of these controls.
+/// Returns a set that has at least the places of these controls.
 fn all_places(alloc: Global, controls: &[Ctl]) -> Result<NumberSet, AllocError>
     ensures { IfOk result (λ places. (n : ℕ) → n < length controls.now → is_in places n ≡ true) }
 {
@@ -46,7 +47,7 @@ fn all_places(alloc: Global, controls: &[Ctl]) -> Result<NumberSet, AllocError>
 }
 
 impl<'a, 'b> Draft<'a, 'b> {
-    /// Returns the draft without controls.
+    /// Returns a draft with no controls.
     pub fn new(alloc: Global, board: &'a BoardTables<'b>) -> Result<Draft<'a, 'b>, AllocError>
         ensures { IfOk result (λ draft. draft ≡ drafted board.now []) }
     {
@@ -56,7 +57,7 @@ impl<'a, 'b> Draft<'a, 'b> {
         Ok(Draft { board, held, free })
     }
 
-    /// Adds the useful control `c`, whose place among the useful controls is `place`.
+    /// Adds the useful control `c`. `place` must be its place in the list of useful controls.
     pub fn add(&mut self, place: usize, c: Ctl)
         requires { slice_get (useful_controls self.old.board) place ≡ Some c }
         ensures { self.new ≡ draft_with self.old c }
@@ -67,7 +68,7 @@ impl<'a, 'b> Draft<'a, 'b> {
         self.free.remove(place);
     }
 
-    /// Adds the control of the driver, if the driver has a control.
+    /// Adds the control of the driver, if the driver has a control. That control must be useful.
     pub fn add_driver(&mut self, d: Drive)
         requires { IsUsefulDriver self.old.board d }
         ensures { self.new ≡ drafted self.old.board (with_driver self.old.setting d) }
@@ -97,14 +98,14 @@ impl<'a, 'b> Draft<'a, 'b> {
         Ok(Setting::of(controls))
     }
 
-    /// Returns the nets that the pass shows.
+    /// Returns the nets that the pass shows, that is, the nets of which it enables a tested driver.
     pub fn shown(&self, alloc: Global) -> Result<NumberSet, AllocError>
         ensures { IfOk result (λ row. AreShownBy self.now.board self.now.setting row) }
     {
         self.board.shown_by(alloc, &self.held)
     }
 
-    /// Adds the places of the pass's controls to a set, which must have room for them.
+    /// Adds the places of the pass's controls to `places`, a set with room for the useful controls.
     pub fn add_places(&self, places: &mut NumberSet)
         requires { length places.old ≡ length (useful_controls self.now.board) / 64 + 1 }
         ensures room { length places.new ≡ length places.old }
@@ -116,7 +117,7 @@ impl<'a, 'b> Draft<'a, 'b> {
     }
 }
 
-/// Returns the controls whose places are in the set.
+/// Returns the controls whose places are in the set, in order.
 fn controls_at(alloc: Global, controls: &[Ctl], places: &NumberSet) -> Result<Vec<Ctl>, AllocError>
     ensures { IfOk result
         (λ found. found.items ≡ passing_controls (is_in places.now) 0 controls.now) }

@@ -19,13 +19,14 @@ use std::alloc::{AllocError, Global};
 #[derive(Drop)]
 pub struct Progress {
     pub passes: Vec<Setting>,
-    /// The nets that each pass shows.
+    /// For each pass, the set of the nets that it shows.
     pub rows: Vec<NumberSet>,
-    /// The places of the useful controls that are in some pass.
+    /// The places, in the list of useful controls, of the controls that are in some pass.
     pub held: NumberSet,
 }
 
-/// Returns the pass for a tested driver that no pass so far enables.
+/// Returns the pass that is made for tested driver `d` after the passes `earlier`, none of which enables `d`. The
+/// control of `d`, if it has one, must be useful.
 fn driver_pass<'a, 'b>(
     alloc: Global,
     board: &'a BoardTables<'b>,
@@ -58,7 +59,7 @@ impl Progress {
         })
     }
 
-    /// Returns whether the useful control is in some pass so far.
+    /// Returns whether some pass so far has the control, which must be useful.
     fn holds(&self, board: &BoardClasses<'_>, c: Ctl) -> bool
         requires progress { IsProgress board.now self.now }
         requires useful { holds (useful_controls board.now) c ≡ true }
@@ -70,7 +71,7 @@ impl Progress {
         }
     }
 
-    /// Returns whether some pass so far enables the tested driver.
+    /// Returns whether some pass so far enables the tested driver. Its control, if it has one, must be useful.
     fn enables(&self, board: &BoardClasses<'_>, d: Drive) -> bool
         requires progress { IsProgress board.now self.now }
         requires driver { IsUsefulDriver board.now d }
@@ -83,7 +84,7 @@ impl Progress {
         }
     }
 
-    /// Adds a pass.
+    /// Appends the draft as a pass.
     fn push(&mut self, alloc: Global, draft: &Draft<'_, '_>) -> Result<(), AllocError>
         requires { IsProgress draft.now.board self.old }
         ensures progress { OnOk result (IsProgress draft.now.board self.new) }
@@ -96,7 +97,8 @@ impl Progress {
         Ok(())
     }
 
-    /// Adds a pass for the tested driver, unless a pass so far enables it.
+    /// Appends a pass for the tested driver, unless a pass so far enables the driver. Its control, if it has one, must
+    /// be useful.
     fn add_for_driver(
         &mut self,
         alloc: Global,
@@ -154,7 +156,7 @@ pub fn driver_passes(alloc: Global, board: &BoardTables<'_>) -> Result<Progress,
     Ok(progress)
 }
 
-/// Returns the first tested driver of the first net that has one.
+/// Returns the first tested driver of the first net that has one, or None if no net has one.
 fn first_driver(board: &BoardClasses<'_>) -> Option<Drive>
     ensures first { result
         ≡ slice_get (flat_map (λ drivers. drivers) (drivers_by_net board.now)) 0 }
@@ -168,7 +170,8 @@ fn first_driver(board: &BoardClasses<'_>) -> Option<Drive>
     None
 }
 
-/// Returns the pass for a tested driver if there is no pass so far.
+/// Returns the pass that is made for the tested driver when there are no earlier passes. The control of the driver, if
+/// it has one, must be useful.
 fn first_pass_for(alloc: Global, board: &BoardTables<'_>, d: Drive) -> Result<Setting, AllocError>
     requires { IsUsefulDriver board.now d }
     ensures { IfOk result (λ pass. pass
@@ -179,8 +182,8 @@ fn first_pass_for(alloc: Global, board: &BoardTables<'_>, d: Drive) -> Result<Se
     draft.setting(alloc)
 }
 
-/// Returns a list that has only the first pass of the board, or an empty list if the board has no pass. The first pass is the pass for
-/// the first tested driver, since a board without tested drivers has no paired nets either.
+/// Returns a list that has only the first pass of the board, or an empty list if the board has no pass. The first pass
+/// is made for the first tested driver. A board without tested drivers has no paired nets, so it has no pass.
 pub fn first_pass_by(alloc: Global, board: &BoardTables<'_>) -> Result<Vec<Setting>, AllocError>
     ensures { IfOk result (λ passes. passes.items ≡ take 1 (passes_of board.now)) }
 {

@@ -1,5 +1,5 @@
-//! The passes of a board, which are safe settings. For each tested driver, some pass enables it. For every two paired
-//! nets, some pass observes both.
+//! Makes the passes of a board's test. A pass is a safe setting. For each tested driver, some pass enables the driver.
+//! For every two paired nets, some pass observes both nets.
 #![tactic(auto)]
 
 mod alike;

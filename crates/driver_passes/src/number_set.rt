@@ -1,4 +1,5 @@
-// Sets of numbers. The numbers are the numbers of nets or the places of controls, and each number has a bit.
+// Sets of numbers, stored as words with one bit for each number. A number is the number of a net, or the place of a
+// control in the list of useful controls.
 ghost use Rattle.std.specs.Prelude.{◌≡◌, ◌≤◌, ◌<◌, ◌+◌, ◌*◌, ◌/◌, ◌==◌, ◌&&◌, ◌||◌, ℕ, Bool, not, false, true, length, replicate, slice_index_or, All, MatchOption, IfOk};
 ghost use Rattle.net_classes.specs.Pairs.{AreWordBits};
 ghost use Rattle.driver_passes.specs.inner.Drafts.{has_number};
@@ -7,7 +8,8 @@ ghost use Rattle.driver_passes.specs.inner.NumberSets.{IsFirstNumber, has_bit, i
 use std::alloc::{AllocError, Global};
 use std::marker::Model;
 
-/// A set of numbers. Contracts see it as its words: number `n` has bit `n % 64` of word `n / 64`.
+/// A set of numbers. Its value in contracts is the list of its words. Number `n` is in the set if bit `n % 64` of word
+/// `n / 64` is 1.
 #[derive(Drop)]
 pub struct NumberSet {
     words: Vec<u64>,
@@ -29,7 +31,7 @@ fn blank_words(alloc: Global, count: usize) -> Result<Vec<u64>, AllocError>
     Ok(words)
 }
 
-/// Returns the word with this number, or 0 past the last word.
+/// Returns word `number`, or 0 if there is no such word.
 fn word_at(words: &[u64], number: usize) -> u64
     ensures { result ≡ slice_index_or words.now number 0 }
 {
@@ -39,7 +41,7 @@ fn word_at(words: &[u64], number: usize) -> u64
     }
 }
 
-/// Returns whether the bit at this place of the word is set.
+/// Returns whether the bit at `place` of the word is 1. `place` must be below 64.
 pub fn has_bit(word: u64, place: usize) -> bool
     requires { place < 64 }
     ensures { result ≡ has_bit word place }
@@ -47,7 +49,7 @@ pub fn has_bit(word: u64, place: usize) -> bool
     word >> place & 1 == 1
 }
 
-/// Sets all bits.
+/// Sets all bits of all words.
 fn set_all(words: &mut [u64])
     ensures { (n : ℕ) → n / 64 < length words.old → is_in words.new n ≡ true }
 {
@@ -56,7 +58,7 @@ fn set_all(words: &mut [u64])
     }
 }
 
-/// Clears, from word `first` on, each bit that is set in the other words.
+/// Clears each bit that is set in `others`, from word `first` on.
 fn clear_from(words: &mut [u64], others: &[u64], first: usize)
     ensures { (n : ℕ) → first ≤ n / 64 →
         is_in words.new n ≡ (is_in words.old n && not (is_in others.now n)) }
@@ -66,7 +68,7 @@ fn clear_from(words: &mut [u64], others: &[u64], first: usize)
     }
 }
 
-/// Clears these bits of the word with this number, if the set has this word.
+/// Clears the bits `bits` in word `number`, if there is such a word.
 fn clear_bits(words: &mut [u64], number: usize, bits: u64)
     ensures { (n : ℕ) → is_in words.new n ≡ (is_in words.old n && not (is_of_word number bits n)) }
 {
@@ -75,7 +77,7 @@ fn clear_bits(words: &mut [u64], number: usize, bits: u64)
     }
 }
 
-/// Sets each bit that is set in the other words.
+/// Sets each bit that is set in `others`. Both slices must have the same length.
 fn set_from(words: &mut [u64], others: &[u64])
     requires { length others.now ≡ length words.old }
     ensures { (n : ℕ) → is_in words.new n ≡ (is_in others.now n || is_in words.old n) }
@@ -85,7 +87,7 @@ fn set_from(words: &mut [u64], others: &[u64])
     }
 }
 
-/// Clears each bit that is not set in the other words.
+/// Clears each bit that is not set in `others`.
 fn clear_others(words: &mut [u64], others: &[u64])
     ensures { (n : ℕ) → is_in words.new n ≡ (is_in words.old n && is_in others.now n) }
 {
@@ -94,7 +96,7 @@ fn clear_others(words: &mut [u64], others: &[u64])
     }
 }
 
-/// Sets the bit of the number if `holds` is true.
+/// Sets the bit of the number if `holds` is true. `words` must have the word of this bit.
 fn set_if(words: &mut [u64], number: usize, holds: bool)
     requires { number / 64 < length words.old }
     ensures { (n : ℕ) → is_in words.new n ≡ ((n == number && holds) || is_in words.old n) }
@@ -121,7 +123,8 @@ impl NumberSet {
         has_bit(word_at(&self.words, number / 64), number % 64)
     }
 
-    /// Returns the bits of the 64 numbers from `64 * number` on.
+    /// Returns word `number`, or 0 if there is no such word. Bit `i` is 1 if the number `64 * number + i` is in the
+    /// set.
     pub fn word(&self, number: usize) -> u64
         ensures word { result ≡ slice_index_or self.now number 0 }
         ensures bits { AreWordBits (is_in self.now) number result }
@@ -129,7 +132,7 @@ impl NumberSet {
         word_at(&self.words, number)
     }
 
-    /// Adds the number if `holds` is true.
+    /// Adds the number if `holds` is true. The set must have room for the number.
     pub fn insert_if(&mut self, number: usize, holds: bool)
         requires { number / 64 < length self.old }
         ensures room { length self.new ≡ length self.old }
@@ -139,7 +142,7 @@ impl NumberSet {
         set_if(&mut self.words, number, holds);
     }
 
-    /// Copies the set.
+    /// Returns a copy of the set.
     pub fn copy(&self, alloc: Global) -> Result<NumberSet, AllocError>
         ensures { IfOk result (λ set. set ≡ self.now) }
     {
@@ -147,7 +150,7 @@ impl NumberSet {
         Ok(NumberSet { words })
     }
 
-    /// Adds these numbers.
+    /// Adds these numbers. The set must have room for them.
     pub fn insert_all(&mut self, numbers: &[u32])
         requires { All (λ n. n / 64 < length self.old) numbers.now }
         ensures room { length self.new ≡ length self.old }
@@ -167,7 +170,7 @@ impl NumberSet {
         set_all(&mut self.words);
     }
 
-    /// Removes, from `64 * first` on, the numbers of the other set.
+    /// Removes the numbers that are in `others`, from the number `64 * first` on.
     pub fn take_out(&mut self, others: &NumberSet, first: usize)
         ensures room { length self.new ≡ length self.old }
         ensures numbers { (n : ℕ) → first ≤ n / 64 →
@@ -176,7 +179,7 @@ impl NumberSet {
         clear_from(&mut self.words, &others.words, first);
     }
 
-    /// Removes the numbers of this word that have one of these bits.
+    /// Removes each number of word `word` whose bit is set in `bits`.
     pub fn take_out_bits(&mut self, word: usize, bits: u64)
         ensures { (n : ℕ) → is_in self.new n ≡ (is_in self.old n && not (is_of_word word bits n)) }
     {
@@ -190,7 +193,7 @@ impl NumberSet {
         self.take_out_bits(number / 64, 1 << (number % 64));
     }
 
-    /// Adds the numbers of the other set, which must have the same room.
+    /// Adds the numbers of `others`. Both sets must have the same number of words.
     pub fn add_all(&mut self, others: &NumberSet)
         requires { length others.now ≡ length self.old }
         ensures room { length self.new ≡ length self.old }
@@ -199,7 +202,7 @@ impl NumberSet {
         set_from(&mut self.words, &others.words);
     }
 
-    /// Removes the numbers that are not in the other set.
+    /// Removes the numbers that are not in `others`.
     pub fn keep_only(&mut self, others: &NumberSet)
         ensures room { length self.new ≡ length self.old }
         ensures numbers { (n : ℕ) → is_in self.new n ≡ (is_in self.old n && is_in others.now n) }
@@ -207,8 +210,8 @@ impl NumberSet {
         clear_others(&mut self.words, &others.words);
     }
 
-    /// Returns the first number of the set from `from` on. If that number is not below `end`, or if there is none, the
-    /// result is some number that is not below `end`.
+    /// Returns the first number of the set in `from..end`. If the set has no number there, the result is at least
+    /// `from` and at least `end`. In both cases, the set has no number in `from..result`.
     pub fn first_from(&self, from: usize, end: usize) -> usize
         ensures passed { (n : ℕ) → from ≤ n → n < result → is_in self.now n ≡ false }
         ensures found { result < end → is_in self.now result ≡ true }
@@ -242,7 +245,7 @@ impl NumberSet {
         number
     }
 
-    /// Returns the bits of the 64 numbers from `64 * number` on that are in this set and not in `others`.
+    /// Returns word `number` of the set without the bits that are set in word `number` of `others`.
     fn word_less(&self, others: &NumberSet, number: usize) -> u64
         ensures { AreWordBits (λ n. is_in self.now n && not (is_in others.now n)) number result }
     {
@@ -250,7 +253,7 @@ impl NumberSet {
     }
 }
 
-/// Returns the first number after the word of `number`, or `end` if `end` comes first.
+/// Returns `end`, or the first number after the word of `number` if that is smaller. `number` must be below `end`.
 fn past_word(number: usize, end: usize) -> usize
     requires { number < end }
     ensures further { number < result }
@@ -260,7 +263,8 @@ fn past_word(number: usize, end: usize) -> usize
     if last < end { last + 1 } else { end }
 }
 
-/// Returns the place of the lowest bit from `place` on that is set in the word.
+/// Returns the place of the lowest bit from `place` on that is set in the word, or None if there is no such bit.
+/// `place` must be below 64.
 fn lowest_from(word: u64, place: usize) -> Option<usize>
     requires { place < 64 }
     ensures { MatchOption result
@@ -275,8 +279,8 @@ fn lowest_from(word: u64, place: usize) -> Option<usize>
     }
 }
 
-/// Returns the first number from `from` on whose bit is set in `word`, or None if there is none. `word` must be the
-/// word of `from`.
+/// Returns the first number from `from` on whose bit is set in `word`, or None if there is no such bit. `word` must be
+/// word `from / 64` of a set.
 pub fn next_in(word: u64, from: usize) -> Option<usize>
     ensures { (passes : ℕ → Bool) → AreWordBits passes (from / 64) word → MatchOption result
         ((n : ℕ) → from ≤ n → n < 64 * (from / 64 + 1) → passes n ≡ false)

@@ -1,4 +1,5 @@
-// Paired nets, and the tested drivers by which they are paired.
+// Finds paired nets, and the two tested drivers that pair them. Two nets are paired if one safe setting enables a
+// tested driver of each.
 ghost use Rattle.std.specs.Prelude.{◌≡◌, ◌<◌, ◌≤◌, ◌+◌, ◌*◌, ◌/◌, ℕ, false, find, length, All, IfSome, MatchOption};
 ghost use Rattle.board_defs.specs.Passes.{first_pair};
 ghost use Rattle.net_classes.specs.Pairs.{AreWordBits, drivers_at, fit};
@@ -10,7 +11,8 @@ use crate::number_set::{NumberSet, next_in};
 use board_defs::Drive;
 use net_classes::BoardClasses;
 
-/// Returns the first of the drivers that one safe setting enables together with `d`.
+/// Returns the first driver in `drivers` that one safe setting enables together with `d`, or None if there is none. The
+/// control of each of these drivers, if it has one, must be useful.
 fn first_fitting(board: &BoardClasses<'_>, d: Drive, drivers: &[Drive]) -> Option<Drive>
     requires driver { IsUsefulDriver board.now d }
     requires drivers { All (IsUsefulDriver board.now) drivers.now }
@@ -25,7 +27,8 @@ fn first_fitting(board: &BoardClasses<'_>, d: Drive, drivers: &[Drive]) -> Optio
     None
 }
 
-/// Returns the first two tested drivers, one of net `a` and one of net `b`, that one safe setting enables.
+/// Returns the first pair of tested drivers, one of net `a` and one of net `b`, that one safe setting enables together.
+/// Returns None if there is no such pair.
 pub fn first_pair(board: &BoardClasses<'_>, a: usize, b: usize) -> Option<(Drive, Drive)>
     ensures found { result
         ≡ first_pair board.now (drivers_at board.now a) (drivers_at board.now b) }
@@ -41,7 +44,7 @@ pub fn first_pair(board: &BoardClasses<'_>, a: usize, b: usize) -> Option<(Drive
     None
 }
 
-/// Returns the nets in `left` that are paired with net `a`, for the 64 nets of the word that has net `net`.
+/// Finds the nets that are in `left` and paired with net `a`. Returns word `net / 64` of the set of these nets.
 fn wanted_word(board: &BoardClasses<'_>, left: &NumberSet, a: usize, net: usize) -> u64
     ensures { AreWordBits (is_wanted board.now left.now a) (net / 64) result }
 {
@@ -53,7 +56,7 @@ fn wanted_word(board: &BoardClasses<'_>, left: &NumberSet, a: usize, net: usize)
     word & paired
 }
 
-/// Returns the first net from `from` on that is in `left` and paired with net `a`.
+/// Returns the first net from `from` on that is in `left` and paired with net `a`, or None if there is none.
 pub fn next_wanted(
     board: &BoardClasses<'_>,
     left: &NumberSet,

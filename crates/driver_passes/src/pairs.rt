@@ -20,20 +20,23 @@ use net_classes::BoardClasses;
 use net_classes::law::pairs_have_drivers;
 use std::alloc::{AllocError, Global};
 
-/// The passes so far, the nets that each of them shows, and the nets that are left for the current net.
+/// The passes so far, and the tables that say which nets these passes show. Passes are added for one net after another.
+/// The net that is being handled is the *current* net.
 #[derive(Drop)]
 pub struct Pairing {
     pub passes: Vec<Setting>,
     pub rows: Vec<NumberSet>,
-    /// The words of the rows that have the bit of the current net.
+    /// The word of each row that has the bit of the current net.
     pub column: Column,
     /// The later nets that no pass so far shows together with the current net.
     pub left: NumberSet,
-    /// The nets that every pass so far shows. Looking up a net in each row instead would be slow, since the rows are far apart in memory.
+    /// The nets that every pass so far shows. Looking up a net in each row instead would be slow, since the rows are
+    /// far apart in memory.
     pub always: NumberSet,
 }
 
-/// Returns the pass for two paired nets that no pass so far observes together.
+/// Returns the pass that is made from this pair of tested drivers of two paired nets. The control of each driver, if it
+/// has one, must be useful.
 fn pair_pass<'a, 'b>(
     alloc: Global,
     board: &'a BoardTables<'b>,
@@ -75,7 +78,7 @@ impl Pairing {
         })
     }
 
-    /// Adds a pass while net `a` is the current net.
+    /// Appends the draft as a pass, and updates the tables. Net `a` must be the current net.
     fn push(&mut self, alloc: Global, a: usize, draft: &Draft<'_, '_>) -> Result<(), AllocError>
         requires { LooksAt draft.now.board self.old a }
         ensures looks { OnOk result (LooksAt draft.now.board self.new a) }
@@ -92,7 +95,7 @@ impl Pairing {
         Ok(())
     }
 
-    /// Adds a pass for the two nets if they are paired. No pass so far may show both.
+    /// Adds a pass for the two nets if they are paired. No pass so far may show both. Net `a` must be the current net.
     fn add_for_nets(
         &mut self,
         alloc: Global,
@@ -116,7 +119,8 @@ impl Pairing {
     }
 
     /// Returns whether one of three tests shows that no pass is needed for net `a` and any later net: an earlier net
-    /// has the same tested drivers, net `a` has no tested driver, or every pass shows net `a`.
+    /// has the same tested drivers, net `a` has no tested driver, or every pass shows net `a`. The passes for all
+    /// earlier nets must be there already.
     fn is_done(&self, board: &BoardTables<'_>, a: usize) -> bool
         requires first { a < length board.now.nets }
         requires pairing { ArePairing board.now self.now }
@@ -133,9 +137,9 @@ impl Pairing {
         self.always.has(a)
     }
 
-    /// Finds the next net from `from` on that is paired with net `a` and that no pass shows together with net `a`.
-    /// Adds a pass for the two nets, and returns the net to continue with. If there is no such net, adds nothing and
-    /// returns the number of nets.
+    /// Finds the next net from `from` on that is paired with net `a` and that no pass shows together with net `a`. Adds
+    /// a pass for the two nets, and returns the net to continue with. If there is no such net, adds nothing and returns
+    /// the number of nets. Net `a` must be the current net, and `from` a later net.
     fn add_for_next(
         &mut self,
         alloc: Global,
@@ -170,7 +174,8 @@ impl Pairing {
         }
     }
 
-    /// Adds the passes that are needed for net `a` and each later net.
+    /// Adds the passes that are needed for net `a` and each later net. The passes for all earlier nets must be there
+    /// already.
     fn add_for_later(
         &mut self,
         alloc: Global,
@@ -200,7 +205,7 @@ impl Pairing {
         Ok(())
     }
 
-    /// Adds the passes that are needed for all pairs of nets.
+    /// Adds the passes that are needed for all pairs of nets. There must be at most `most_pins` passes so far.
     fn add_for_all(&mut self, alloc: Global, board: &BoardTables<'_>) -> Result<(), AllocError>
         requires pairing { ArePairing board.now self.old }
         requires few { length self.old.passes.items ≤ most_pins }
@@ -217,7 +222,8 @@ impl Pairing {
     }
 }
 
-/// Returns the passes so far, followed by more passes until, for every two paired nets, some pass observes both.
+/// Returns the passes so far, followed by more passes until, for every two paired nets, some pass observes both. The
+/// passes so far must enable every tested driver, and there must be at most `most_pins` of them.
 pub fn pair_passes(
     alloc: Global,
     board: &BoardTables<'_>,

@@ -1,4 +1,5 @@
-// The useful controls that share each net with another control.
+// Finds, for each net, the useful controls that share the net with another control. Two controls share a net if each of
+// them controls a driver of the net.
 ghost use Rattle.std.specs.Prelude.{◌≡◌, ◌<◌, ◌==◌, ◌&&◌, ◌||◌, ℕ, [], not, length, slice_index_or, All, IfOk, OnOk};
 ghost use Rattle.board_defs.specs.Passes.{useful_controls};
 ghost use Rattle.driver_passes.specs.inner.Blocks.{has_place};
@@ -12,10 +13,10 @@ use lists::{Items, blank, note};
 use net_classes::BoardClasses;
 use std::alloc::{AllocError, Global};
 
-/// The places of useful controls, in order.
+/// Places in the list of useful controls, in ascending order.
 type Places = Items<usize>;
 
-/// Appends the place to the list of each of these nets.
+/// Appends the place to the list of each of these nets. `sharers` must have a list for each of them.
 fn list_place(sharers: &mut [Places], nets: &[u32], place: usize) -> Result<(), AllocError>
     requires { All (λ n. n < length sharers.old) nets.now }
     ensures { OnOk result ((n q : ℕ) → has_number (slice_index_or sharers.new n []) q
@@ -40,7 +41,7 @@ fn lists_of(alloc: Global, board: &BoardClasses<'_>) -> Result<Vec<Places>, Allo
     Ok(sharers)
 }
 
-/// Returns the set of the places in each list.
+/// Returns, for each list, the set of its places.
 fn sets_of(alloc: Global, lists: &[Places]) -> Result<Vec<Blocks>, AllocError>
     ensures { IfOk result (λ sets. (n q : ℕ) → has_place (slice_index_or sets.items n []) q
         ≡ has_number (slice_index_or lists.now n []) q) }
@@ -52,7 +53,7 @@ fn sets_of(alloc: Global, lists: &[Places]) -> Result<Vec<Blocks>, AllocError>
     Ok(sets)
 }
 
-/// Returns, for each net, the places of the useful controls that share the net with another control.
+/// Returns, for each net, the set of the places of the useful controls that share the net with another control.
 pub fn sharers_of(alloc: Global, board: &BoardClasses<'_>) -> Result<Vec<Blocks>, AllocError>
     ensures { IfOk result (λ sharers. AreSharers board.now sharers.items) }
 {
@@ -61,7 +62,7 @@ pub fn sharers_of(alloc: Global, board: &BoardClasses<'_>) -> Result<Vec<Blocks>
     Ok(sharers)
 }
 
-/// Returns the places of the useful controls that share the net.
+/// Returns the blocks of the net's set, or no blocks if `sharers` has no such net.
 fn blocks_at(sharers: &[Blocks], net: usize) -> &[Block]
     ensures { result.now ≡ slice_index_or sharers.now net [] }
 {
@@ -80,7 +81,7 @@ fn close(free: &mut NumberSet, blocks: &[Block])
     }
 }
 
-/// Removes from `free` the places in the sets of these nets.
+/// Removes from `free` the places that `sharers` has for these nets.
 pub fn close_sharers(free: &mut NumberSet, sharers: &[Blocks], nets: &[u32])
     ensures { (q : ℕ) → is_in free.new q
         ≡ (is_in free.old q && not (is_listed sharers.now nets.now q)) }

@@ -1,5 +1,5 @@
-// The nets that every pass shows, and the nets that some pass shows together with a given net. The row of a pass is
-// the set of the nets that the pass shows.
+// Computes the nets that every pass shows, and the nets that no pass shows together with a given net. A pass shows a
+// net if it enables a tested driver of the net. The row of a pass is the set of the nets that the pass shows.
 ghost use Rattle.std.specs.Prelude.{◌≡◌, ◌<◌, ◌≤◌, ◌/◌, ◌&&◌, ℕ, not, length, slice_index_or};
 ghost use Rattle.std.specs.List.{list_all, list_any};
 ghost use Rattle.driver_passes.specs.inner.NumberSets.{is_in};
@@ -7,7 +7,7 @@ ghost use Rattle.driver_passes.specs.inner.Shown.{shows_both, words_at};
 
 use crate::number_set::{NumberSet, has_bit};
 
-/// Makes `always` the set of the nets that every pass shows.
+/// Makes `always` the set of the nets that are in every row.
 pub fn keep_shown(always: &mut NumberSet, rows: &[NumberSet])
     ensures room { length always.new ≡ length always.old }
     ensures nets { (n : ℕ) → n / 64 < length always.old →
@@ -19,8 +19,8 @@ pub fn keep_shown(always: &mut NumberSet, rows: &[NumberSet])
     }
 }
 
-/// Removes, from word `a / 64` on, the nets that the pass of this row shows together with net `a`. `word` is the
-/// row's word `a / 64`, so a row without net `a` need not be read.
+/// Removes the nets of the row from `left`, from word `a / 64` on, if the row has net `a`. `word` must be word `a / 64`
+/// of the row, so that a row without net `a` need not be read.
 pub fn take_shown(left: &mut NumberSet, row: &NumberSet, word: u64, a: usize)
     requires { word ≡ slice_index_or row.now (a / 64) 0 }
     ensures room { length left.new ≡ length left.old }
@@ -32,7 +32,7 @@ pub fn take_shown(left: &mut NumberSet, row: &NumberSet, word: u64, a: usize)
     }
 }
 
-/// Makes `left`, from word `a / 64` on, the set of the nets that no pass shows together with net `a`. `words` has
+/// Makes `left`, from word `a / 64` on, the set of the nets that no pass shows together with net `a`. `words` must have
 /// word `a / 64` of each row.
 pub fn leave_unshown(left: &mut NumberSet, rows: &[NumberSet], words: &[u64], a: usize)
     requires { words.now ≡ words_at (a / 64) rows.now }

@@ -19,7 +19,7 @@ use net_classes::law::nets_are_shared;
 use std::alloc::{AllocError, Global};
 use std::marker::Model;
 
-/// A board with its classes and the tables from which its passes are made. Contracts see it as the board.
+/// A board with its classes and the tables from which its passes are made. Its value in contracts is the board.
 #[derive(Drop)]
 pub struct BoardTables<'a> {
     classes: BoardClasses<'a>,
@@ -64,7 +64,7 @@ impl<'a> BoardTables<'a> {
         })
     }
 
-    /// Returns the board with its classes. Its contract also says that the laws of boards are true of this board.
+    /// Returns the board with its classes. The contract also says that the board keeps the laws of boards.
     pub fn classes(&self) -> &BoardClasses<'a>
         ensures same { result.now ≡ self.now }
         ensures laws { KeepsLaws self.now }
@@ -72,7 +72,7 @@ impl<'a> BoardTables<'a> {
         &self.classes
     }
 
-    /// Returns an earlier net with the same tested drivers, or the net itself.
+    /// Returns an earlier net with the same tested drivers as this net, or the net itself.
     pub fn like_of(&self, net: usize) -> usize
         ensures within { result ≤ net }
         ensures alike { drivers_at self.now result ≡ drivers_at self.now net }
@@ -83,8 +83,8 @@ impl<'a> BoardTables<'a> {
         }
     }
 
-    /// Removes from `free` the places of the other useful controls that are not together with `c`. The contract does
-    /// not say whether the place of `c` itself stays.
+    /// Removes from `free` the places of the useful controls that are not together with `c`, that is, a setting with
+    /// both controls is not safe. The contract does not say whether the place of `c` itself stays. `c` must be useful.
     pub fn take_out_apart(&self, free: &mut NumberSet, c: Ctl)
         requires { holds (useful_controls self.now) c ≡ true }
         ensures { LosesApart self.now c free.old free.new }
@@ -93,7 +93,7 @@ impl<'a> BoardTables<'a> {
         close_sharers(free, &self.sharers, self.classes.shared_nets(c));
     }
 
-    /// Returns the nets that a pass shows if it has the useful controls at these places.
+    /// Returns the nets that a pass shows if its controls are the useful controls at the places in `held`.
     pub fn shown_by(&self, alloc: Global, held: &NumberSet) -> Result<NumberSet, AllocError>
         ensures { IfOk result (λ row. AreShownBy self.now (setting_of self.now held.now) row) }
     {

@@ -1,5 +1,5 @@
-// The nets that each useful control tests. A pass shows the nets that its controls test and the nets with a driver
-// that is always on.
+// Finds the nets that each useful control tests, that is, the nets with a tested driver of this control. A pass shows
+// the nets that its controls test, and the nets with a tested driver that is always on.
 ghost use Rattle.std.specs.Prelude.{◌≡◌, ◌<◌, ◌/◌, [], true, length, Some, IfOk, OnOk};
 ghost use Rattle.board_defs.specs.Decided.{is_by};
 ghost use Rattle.board_defs.specs.Passes.{shows, useful_controls};
@@ -46,7 +46,8 @@ fn steady_nets(alloc: Global, board: &BoardClasses<'_>) -> Result<NumberSet, All
     Ok(row)
 }
 
-/// Appends the net to the list of the driver's control, if the driver has a control.
+/// Appends the net to the list of the driver's control, if the driver has a useful control. `lists` must have a list
+/// for each useful control.
 fn list_driver(
     lists: &mut [NetNumbers],
     board: &BoardClasses<'_>,
@@ -65,7 +66,8 @@ fn list_driver(
     Ok(())
 }
 
-/// Appends the net to the list of each control of these drivers.
+/// Appends the net to the list of each useful control of these drivers. `lists` must have a list for each useful
+/// control.
 fn list_drivers(
     lists: &mut [NetNumbers],
     board: &BoardClasses<'_>,
@@ -93,7 +95,7 @@ fn nets_by_control(alloc: Global, board: &BoardClasses<'_>) -> Result<Vec<NetNum
 }
 
 impl TestedNets {
-    /// Collects the nets that the useful controls of the board test.
+    /// Finds the nets that the useful controls of the board test.
     pub fn new(alloc: Global, board: &BoardClasses<'_>) -> Result<TestedNets, AllocError>
         ensures { IfOk result (λ nets. AreTestedNets board.now nets) }
     {
@@ -102,7 +104,7 @@ impl TestedNets {
         Ok(TestedNets { steady, by_control })
     }
 
-    /// Returns the nets that a pass shows if it has the useful controls at these places.
+    /// Returns the nets that a pass shows if its controls are the useful controls at the places in `held`.
     pub fn shown_by(
         &self,
         alloc: Global,

@@ -1,4 +1,5 @@
-// The two walks over the useful controls. A walk skips controls that cannot be added, 64 at a time.
+// The two walks over the useful controls, which add controls to a draft. A walk skips controls that cannot be added, 64
+// at a time.
 ghost use Rattle.std.specs.Prelude.{◌≡◌, ◌<◌, length};
 ghost use Rattle.board_defs.specs.Passes.{useful_controls};
 ghost use Rattle.driver_passes.specs.inner.Progress.{IsProgress};
@@ -8,8 +9,9 @@ use crate::draft::Draft;
 use crate::drivers::Progress;
 
 impl<'a, 'b> Draft<'a, 'b> {
-    /// Adds the first useful control from place `from` on that is in no earlier pass and together with all controls of
-    /// the draft, if there is such a control. Returns the place to continue with.
+    /// Finds the first useful control from place `from` on that is in no earlier pass and is together with all controls
+    /// of the draft. Adds this control, if there is one. Returns the place to continue with. `from` must be the place
+    /// of a useful control.
     fn add_new(&mut self, earlier: &Progress, from: usize) -> usize
         requires earlier { IsProgress self.old.board earlier.now }
         requires from { from < length (useful_controls self.old.board) }
@@ -27,7 +29,7 @@ impl<'a, 'b> Draft<'a, 'b> {
         place + 1
     }
 
-    /// Goes through the useful controls in order, and adds each that is in no earlier pass and together with all
+    /// Goes through the useful controls in order. Adds each control that is in no earlier pass and is together with all
     /// controls of the draft. So no earlier pass enables the tested drivers of an added control.
     pub fn first_walk(&mut self, earlier: &Progress)
         requires { IsProgress self.old.board earlier.now }
@@ -39,8 +41,8 @@ impl<'a, 'b> Draft<'a, 'b> {
         }
     }
 
-    /// Adds the first useful control from place `from` on that is together with all controls of the draft, if there is
-    /// such a control. Returns the place to continue with.
+    /// Finds the first useful control from place `from` on that is together with all controls of the draft. Adds this
+    /// control, if there is one. Returns the place to continue with. `from` must be the place of a useful control.
     fn add_next(&mut self, from: usize) -> usize
         requires { from < length (useful_controls self.old.board) }
         ensures board { self.new.board ≡ self.old.board }
@@ -56,7 +58,7 @@ impl<'a, 'b> Draft<'a, 'b> {
         place + 1
     }
 
-    /// Goes through the useful controls in order, and adds each that is together with all controls of the draft.
+    /// Goes through the useful controls in order. Adds each control that is together with all controls of the draft.
     pub fn second_walk(&mut self)
         ensures { self.new ≡ second_walked self.old 0 }
     {

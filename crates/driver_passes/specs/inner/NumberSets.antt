@@ -1,4 +1,4 @@
--- Sets of numbers, as words with a bit for each of 64 numbers.
+-- Sets of numbers, stored as words with one bit for each number. Number `n` has bit `n % 64` of word `n / 64`.
 use Rattle.std.specs.Prelude.{◌≡◌, ◌≤◌, ◌<◌, ◌/◌, ◌%◌, ◌==◌, ◌&&◌, ℕ, Bool, true, false, List, slice_index_or}
 use Rattle.std.specs.Int.{bit_at}
 
@@ -10,7 +10,7 @@ has_bit word place = bit_at word place == 1
 unfoldable pub is_in : List ℕ → ℕ → Bool
 is_in words n = has_bit (slice_index_or words (n / 64) 0) (n % 64)
 
--- the number belongs to this word, and its bit there is one of `bits`
+-- number `n` belongs to this word, and its bit is set in `bits`
 abbrev pub is_of_word : ℕ → ℕ → ℕ → Bool
 is_of_word word bits n = n / 64 == word && has_bit bits (n % 64)
 

@@ -12,8 +12,8 @@ use Rattle.driver_passes.specs.inner.Progress.{EnableTested}
 use Rattle.driver_passes.specs.Useful.{HoldUseful}
 use Rattle.driver_passes.specs.inner.Shown.{AreShownRows, AreShownByAll, IsColumn}
 
--- The rows belong to the passes so far, which enable each tested driver and hold only useful controls. The column belongs to the rows.
--- `always` has the nets that all passes show, and `left` has room for each net.
+-- The state of a `Pairing`. The passes so far enable each tested driver and hold only useful controls. The rows belong to these passes, and
+-- the column belongs to the rows. `always` has the nets that all passes show, and `left` has room for each net.
 pub record ArePairing (board : RawBoard) (pairing : Pairing) : Type 0 where
   pub rows : AreShownRows board pairing.passes.items pairing.rows.items
   pub column : IsColumn pairing.rows.items pairing.column
@@ -28,7 +28,8 @@ AreLeft board passes a left =
     (n : ℕ) → a ≤ n → n < length board.nets
     → is_in left n ≡ not (are_shown passes (drivers_at board a) (drivers_at board n))
 
--- net `a` is the current net: `left` has those nets from net `a` on that no pass shows together with net `a`
+-- Net `a` is the current net, that is, the net for which passes are being added. `left` has those nets from net `a` on that no pass shows
+-- together with net `a`.
 pub record LooksAt (board : RawBoard) (pairing : Pairing) (a : ℕ) : Type 0 where
   pub are : ArePairing board pairing
   pub net : a < length board.nets

@@ -21,7 +21,8 @@ pub record AreHeld (board : RawBoard) (passes : List (List Ctl)) (held : List �
   pub held_length : length held ≡ length (useful_controls board) / 64 + 1
   pub held_are : (i : ℕ) (c : Ctl) → slice_get (useful_controls board) i ≡ Some c → is_in held i ≡ is_held passes c
 
--- the passes so far hold only useful controls, `held` has the places of these controls, and each row has the nets that its pass shows
+-- The state of a `Progress`. The passes so far hold only useful controls, `held` has the places of these controls, and each row has the
+-- nets that its pass shows.
 pub record IsProgress (board : RawBoard) (progress : Progress) : Type 0 where
   pub held : AreHeld board progress.passes.items progress.held
   pub useful : HoldUseful board progress.passes.items

@@ -1,4 +1,4 @@
--- The useful controls that share each net with another control.
+-- The useful controls that share each net with another control. Two controls share a net if each of them controls a driver of the net.
 use Rattle.std.specs.Prelude.{◌≡◌, ◌&&◌, ℕ, Bool, false, List, [], length, ltb, Some, slice_get, slice_index_or}
 use Rattle.std.specs.List.{list_any}
 use Rattle.board_defs.specs.declared.board.Ctl.{Ctl}
@@ -12,7 +12,7 @@ use Rattle.driver_passes.specs.inner.Blocks.{has_place}
 use Rattle.driver_passes.specs.inner.Drafts.{has_number}
 use Rattle.driver_passes.specs.inner.NumberSets.{is_in}
 
--- the list of each net has the places below `most` of the useful controls that share the net with another control
+-- Each net has a list of places. The list has the places below `most` of the useful controls that share the net with another control.
 pub record AreSharersBelow (board : RawBoard) (most : ℕ) (sharers : List (List ℕ)) : Type 0 where
   pub sharers_length : length sharers ≡ length board.nets
   pub sharers_are : (place : ℕ) (c : Ctl) → slice_get (useful_controls board) place ≡ Some c
@@ -20,7 +20,7 @@ pub record AreSharersBelow (board : RawBoard) (most : ℕ) (sharers : List (List
       → has_number (slice_index_or sharers n []) place
       ≡ (ltb place most && has_number (shared_nets board c) n)
 
--- the set of each net has the places of the useful controls that share the net with another control
+-- Each net has a set of places: the places of the useful controls that share the net with another control.
 abbrev pub AreSharers : RawBoard → List (List Block) → Type 0
 AreSharers board sharers =
     (place : ℕ) (c : Ctl) → slice_get (useful_controls board) place ≡ Some c → (n : ℕ)

@@ -1,4 +1,4 @@
--- The nets that each pass shows.
+-- The nets that each pass shows. A pass shows a net if it enables a tested driver of the net.
 use Rattle.std.specs.Prelude.{◌≡◌, ◌<◌, ◌+◌, ◌/◌, ◌&&◌, ℕ, Bool, List, length, map, slice_index_or}
 use Rattle.std.specs.List.{AllZip, list_all}
 use Rattle.board_defs.specs.declared.board.Ctl.{Ctl}

@@ -22,7 +22,7 @@ AreNoted board net passes before after =
     → has_number (slice_index_or after place []) n
     ≡ ((n == net && passes c) || has_number (slice_index_or before place []) n)
 
--- the list of each useful control has the nets below `most` with a tested driver of this control
+-- Each useful control has a list of nets. The list has the nets below `most` with a tested driver of this control.
 pub record AreListed (board : RawBoard) (most : ℕ) (lists : List (List ℕ)) : Type 0 where
   pub lists_length : length lists ≡ length (useful_controls board)
   pub lists_are : (place : ℕ) (c : Ctl) → slice_get (useful_controls board) place ≡ Some c → (n : ℕ)

@@ -1,4 +1,4 @@
--- The two walks over the useful controls, each from a given place on.
+-- The two walks over the useful controls, each starting at a given place.
 use Rattle.std.specs.Prelude.{ℕ, List, drop}
 use Rattle.board_defs.specs.declared.board.Ctl.{Ctl}
 use Rattle.board_defs.specs.Passes.{first_walk, second_walk, useful_controls}
