@@ -1,4 +1,4 @@
--- Lemmas about rows in which items set bits in turn.
+-- Lemmas about rows that are made by setting one bit after another.
 use Rattle.std.proofs.Common.{◌≡◌, ℕ, ◌<◌, ◌≤◌, Bool, true, false, List, [], ◌∷◌, fold, length, get_or, set, refl, sym, ap, ◌∙◌, arith, length-set, ◌⊎◌, inl, inr}
 use Rattle.std.proofs.lemmas.Bool.{cases_eq, cases_lt}
 use Rattle.std.proofs.lemmas.List.{ext_get_or, get_or-set_same, get_or-set_other, get_or_past, set_comm}
@@ -49,7 +49,6 @@ assigned_is {X} place bit (y ∷ xs) start target same right cover =
     by_place i less (inr other) (inr (x, inl same_item, at)) = absurd (other (sym at ∙ sym (ap place same_item)))
     by_place i less (inr other) (inr (x, inr h, at)) = inr (x, h, at)
 
--- if no item has place `p`, the bit at `p` can be set before or after the bits of the items
 set_apart : {X : Type 0} (place : X → ℕ) (bit : X → Bool) (xs : List X) (start : List Bool) (p : ℕ)
     (b : Bool) → ((x : X) → Has xs x → place x ≡ p → ⊥) →
     assigned place bit (set start p b) xs ≡ set (assigned place bit start xs) p b
@@ -68,7 +67,6 @@ assigned_apart place bit spot value start xs (y ∷ ys) apart =
     assigned_apart place bit spot value (set start (spot y) (value y)) xs ys (λ x z h k. apart x z h (inr k))
     ∙ ap (λ (l : List Bool). assigned spot value l ys) (set_apart place bit xs start (spot y) (value y) (λ x h. apart x y h (inl refl)))
 
--- applying a step to the items of each group in turn gives the same result as applying it to the joined list of items
 pub fold_groups : {X G S : Type 0} (step : S → X → S) (items : G → List X) (groups : List G)
     (start : S)
     → fold (λ done g. fold step done (items g)) start groups
@@ -82,7 +80,6 @@ pub assigned_groups : {X G : Type 0} (place : X → ℕ) (bit : X → Bool) (ite
     fold (λ done g. assigned place bit done (items g)) start groups ≡ assigned place bit start (flat_map items groups)
 assigned_groups place bit items groups start = fold_groups (λ bits x. set bits (place x) (bit x)) items groups start
 
--- a true flag is still true after some flag is set
 flag_stays : (flags : List Bool) (p i : ℕ) → get_or flags i false ≡ true → get_or (set flags p true) i false ≡ true
 flag_stays flags p i e = by_place (cases_eq i p) (cases_lt i (length flags))
   where

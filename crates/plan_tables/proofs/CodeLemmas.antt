@@ -41,7 +41,7 @@ code_mask (a ∷ b ∷ code) n e long =
 abbrev pub bits_of : Instruction → List Part → List ScanBit
 bits_of instruction parts = (instructs (map (λ part. code_for instruction part.kind) parts)).bits
 
--- if the bits of all parts fit into a row, the bits of the parts that are left when the loop ends at part 0 fit, too
+-- When the loop ends at part 0, the row has the bits of all parts.
 pub few_left : (instruction : Instruction) (chain : List Part)
     → length (bits_of instruction chain) ≤ most_bits → (i : ℕ) → i ≡ 0 → (row : ScanBit → Bool) →
     length (map row (bits_of instruction (drop i chain))) ≤ most_bits
@@ -94,7 +94,6 @@ module _ (instruction : Instruction) (chain : List Part) (coded : HaveCodes inst
       (code_mask (code_for instruction part.kind) (instruction_length part.kind)
       is_coded.length_is is_coded.least)
 
--- the codes of a valid part have the length of its instruction register, which is at least 2
 kind_coded : (instruction : Instruction) (kind : PartKind) → IsPart kind → HasCodeFor instruction kind
 kind_coded Preload (Described device) r = record { least = r.ir_least; length_is = length-map device.sample _ ∙ r.codes.sample_length }
 kind_coded Extest (Described device) r = record { least = r.ir_least; length_is = length-map device.extest _ ∙ r.codes.extest_length }

@@ -20,7 +20,6 @@ pub record Noted (observers : List Observer) (control : ℕ) (cell : DriverCell)
   pub control_is : observer.control ≡ Some control
   pub cell_is : observer.cell ≡ cell
 
--- after a cell is added to row `q`, each item of row `p` was there before, or it is the added cell and `p` is `q`
 row_has : (rows : List (List DriverCell)) (q : ℕ) (cell : DriverCell) (p : ℕ) (d : DriverCell)
     → Has (get_or (noted rows (Some q) cell) p []) d
     → Has (get_or rows p []) d ⊎ ((q ≡ p) × (cell ≡ d))
@@ -119,7 +118,7 @@ has_noted (x ∷ observers) rows p d less h =
     by_case (inl k) = inl (added x.control (inl k))
     by_case (inr n) = by_in n n.is_in
 
--- if there is a control, one of the held cells is its cell
+-- if there is a control, its cell is one of the cells `held`
 abbrev pub IsOn : List HeldCell → Option ℕ → Type 0
 IsOn held control = (p : ℕ) → control ≡ Some p → (h : HeldCell) × Has held h × (h.position ≡ p)
 

@@ -20,7 +20,6 @@ use Rattle.plan_tables.specs.Plans.{controls_driver_in, controls_some}
 use Rattle.plan_tables.specs.inner.Laid.{steady}
 use Rattle.plan_tables.proofs.PinLemmas.{wired_at}
 
--- no cell carries a net's bit in the quiet row
 quiet_data : (board : RawBoard) (part : ℕ) (device : RawDevice) (cell : ℕ) → data_bit board quiet_row part device cell ≡ None
 quiet_data board part device cell = by_cell (driving_cell device cell)
   where
@@ -45,7 +44,6 @@ pub quiet_steady : (board : RawBoard) (part : ℕ) (device : RawDevice) (cell : 
 quiet_steady board part device cell =
     ap (λ (o : Option Bool). unwrap_or o (steady_bit board (λ c. false) part device cell)) (quiet_data board part device cell)
 
--- if a control controls a driver of its part's device, the control cell is a boundary cell of the device
 pub control_below : (board : RawBoard) → IsBoard board → (c : Ctl) (device : RawDevice) → device_at board c.part ≡ Some device →
     list_any (controls_driver board c.part c.cell) device.cells ≡ true → c.cell < device.boundary
 control_below board rules c device e any =
@@ -57,12 +55,10 @@ control_below board rules c device e any =
     let k = control_is c.cell x.1.ctl (and_parts (is_control_of c.cell x.1.ctl) (is_driving x.1.role) driver.0).0 in
     subst (λ (n : ℕ). n < device.boundary) k.2 ((wired_at board rules c.part device e).below x.0 x.1 k.0 x.2 k.1)
 
--- if a control controls a driver of the board, it controls a driver of its part's device
 pub controls_any : (board : RawBoard) (c : Ctl) (device : RawDevice) → device_at board c.part ≡ Some device → controls_some board c ≡ true →
     list_any (controls_driver board c.part c.cell) device.cells ≡ true
 controls_any board c device e controls = sym (ap (λ (o : Option RawDevice). controls_driver_in board c o) e) ∙ controls
 
--- if a control controls a driver of the board, the control cell is a cell of the control's part
 pub control_cells : (board : RawBoard) → IsBoard board → (c : Ctl) → controls_some board c ≡ true
     → c.cell < cell_count (device_at board c.part)
 control_cells board rules c controls = by_device (device_at board c.part) refl controls

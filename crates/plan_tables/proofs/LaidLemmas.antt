@@ -1,4 +1,4 @@
--- Lemmas about data rows, which have a bit for each boundary cell of each described part at the position of the cell.
+-- Lemmas about data rows. A row has the bit of each boundary cell of each described part at the position of the cell.
 use Rattle.std.proofs.Common.{◌≡◌, ℕ, zero, suc, ◌+◌, ◌-◌, ◌<◌, ◌≤◌, Bool, false, List, [], ◌∷◌, ◌++◌, length, map, drop, get_or, replicate, Option, Some, None, is_some, unwrap_or, refl, sym, ap, ◌∙◌, arith, length-append, ◌⊎◌, inl, inr}
 use Rattle.std.specs.Prelude.{slice_get, option_and_then, sum_by}
 use Rattle.std.proofs.lemmas.Bool.{cases_lt}
@@ -22,8 +22,6 @@ use Rattle.plan_tables.specs.inner.Laid.{CellBits, part_laid, parts_laid, bits_o
 use Rattle.plan_tables.specs.Assigned.{assigned}
 use Rattle.plan_tables.proofs.AssignLemmas.{assigned_is}
 
--- If `f` returns false for a bit with TDI 0 that is not compared, mapping `f` over the bits of a data scan gives the row that has the
--- mapped bit of each cell at the cell's position.
 map_laid : (f : ScanBit → Bool) → f (record { tdi = false; expect = None }) ≡ false
     → (board : RawBoard) (scan : RowScan) (part : ℕ) (parts : List Part) →
     map f (joined (bits_by_part board scan part parts))
@@ -65,7 +63,6 @@ map_laid f none board scan part (p ∷ parts) =
         })
     by_kind (Bypass n) = cons_path none refl
 
--- the bits that a data scan shifts in have the bit of each cell at the cell's position
 pub tdi_laid : (board : RawBoard) (scan : RowScan)
     → tdi_bits (joined (row_bits board scan))
     ≡ bits_of_parts (λ part device cell. row_bit board scan.now part device cell) board
@@ -104,7 +101,6 @@ length-parts_laid g part (p ∷ parts) =
 pub length-laid : (g : CellBits) (board : RawBoard) → length (bits_of_parts g board) ≡ data_bits board
 length-laid g board = length-parts_laid g 0 board.chain
 
--- if part `n` is described, the bits of the parts have the bit of each of its cells at the cell's position
 part_at : (g : CellBits) (k : ℕ) (parts : List Part) (n : ℕ) (p : Part) (device : RawDevice)
     (cell : ℕ) → slice_get parts n ≡ Some p → p.kind ≡ Described device → cell < device.boundary →
     (bits_of (drop (suc n) parts) + cell < bits_of parts)
@@ -207,7 +203,7 @@ pub record Sets (board : RawBoard) (g : CellBits) (place : ℕ) (bit : Bool) : T
   pub place_is : place ≡ first_position board part + cell
   pub bit_is : g part device cell ≡ bit
 
--- If each item sets a correct bit, and the items cover each cell whose bit differs, the result is the wanted row.
+-- If each item sets a correct bit, and the items cover each cell whose bit differs, the result is the row of `h`.
 pub assigned_laid : {X : Type 0} (place : X → ℕ) (bit : X → Bool) (xs : List X) (board : RawBoard) (g h : CellBits) →
     ((x : X) → Has xs x → Sets board h (place x) (bit x)) →
     ((part : ℕ) (device : RawDevice) (cell : ℕ) → CellOf board part device cell
@@ -247,7 +243,6 @@ assigned_laid {X} place bit xs board g h right cover =
         at_cell i n device cell c at (cover n device cell c)
     by_site i (other_site none) = inl (none g ∙ sym (none h))
 
--- if two functions give each cell the same bit, the rows that they give are equal
 pub laid_same : (board : RawBoard) (g h : CellBits)
     → ((part : ℕ) (device : RawDevice) (cell : ℕ) → g part device cell ≡ h part device cell)
     → bits_of_parts g board ≡ bits_of_parts h board
@@ -255,7 +250,6 @@ laid_same board g h same =
     assigned_laid {X = ℕ} (λ x. x) (λ x. false) [] board g h (λ x none. absurd none)
     (λ part device cell c. inl (same part device cell))
 
--- the row in which every cell has the bit 0 is a row of zeros
 pub zeros_laid : (board : RawBoard) → replicate (data_bits board) false ≡ bits_of_parts (λ part device cell. false) board
 zeros_laid board =
     ext_get_or false (replicate (data_bits board) false) (bits_of_parts g board)

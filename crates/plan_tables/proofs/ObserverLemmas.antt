@@ -1,4 +1,4 @@
--- Lemmas which say that the drivers by which a pass observes nets are the observers that it enables.
+-- Proofs that a pass observes nets by the observers that it enables, and by no other drivers.
 use Rattle.std.proofs.Common.{◌≡◌, ℕ, ◌+◌, ◌<◌, Bool, true, false, cond, List, [], length, map, get_or, Option, Some, None, refl, sym, ap, ◌∙◌, subst, arith, ◌⊎◌, inl, inr}
 use Rattle.std.specs.Prelude.{slice_get, option_map, option_and_then, filter, find, All}
 use Rattle.std.proofs.lemmas.Option.{slice_get-get_or, slice_get_within}
@@ -77,7 +77,6 @@ driver_on board net d h = by_guard (guarded board net) h
         let k = has_gathered (λ place (pin : NetPin). optional (driver_of board place pin.at)) 0 net.pins d h in
         by_at (k.0) (k.1) k.2 (k.1.at) refl k.3
 
--- the control cell of a driver is a cell of the driver's part
 pub control_there : (board : RawBoard) → IsBoard board → (net : Net) (d : NetDriver)
     → Has (drivers_of board net) d → IsControlThere board d.ctl
 control_there board rules net d h c e = by_control s.entry.ctl refl
@@ -143,7 +142,6 @@ controls_there board rules net drivers e k d less =
     let has : Has drivers (get_or drivers k d) = has_at drivers k (get_or drivers k d) (slice_get-get_or drivers k d less) in
     control_there board rules net (get_or drivers k d) (subst (λ (l : List NetDriver). Has l (get_or drivers k d)) e has)
 
--- if the setting enables a driver, it enables the driver's pin
 pin_enabled : (board : RawBoard) (s : Enabling) (net : Net) (d : NetDriver)
     (k : DriverOn board net d) → is_driver_on s d.ctl ≡ true → enables board s k.pin ≡ true
 pin_enabled board s net d k on =
@@ -153,7 +151,6 @@ pin_enabled board s net d k on =
     ∙ ap (λ (x : NetDriver). is_driver_on s x.ctl) k.driver_is
     ∙ on
 
--- a safe setting enables at most one driver of a net
 one_driver : (board : RawBoard) (s : Enabling) → IsSafe board s → (n : ℕ) (net : Net)
     → slice_get board.nets n ≡ Some net → (d e : NetDriver) → Has (drivers_of board net) d
     → Has (drivers_of board net) e →
@@ -184,7 +181,6 @@ one_driver board s safe n net is_net d e hd he on_d on_e = by_place (cases_eq d.
         (safe.one n net d.place e.place a.pin b.pin is_net a.is_pin b.is_pin differ
         (pin_enabled board s net d a on_d) (pin_enabled board s net e b on_e))
 
--- if a safe setting enables driver `d`, and some cell reads another pin of the net, the setting observes the net by `d`
 observing_is : (board : RawBoard) (s : Enabling) → IsSafe board s → (n : ℕ) (net : Net)
     → slice_get board.nets n ≡ Some net → (d : NetDriver) → Has (drivers_of board net) d
     → is_driver_on s d.ctl ≡ true →
@@ -228,7 +224,7 @@ enabled_by s drivers readers d e = by_found (find (λ x. is_driver_on s x.ctl) d
         let k = find_has (λ (y : NetDriver). is_driver_on s y.ctl) drivers x f in
         by_test x k.0 k.1 (is_read_beside readers x) refl e
 
--- `x` is the observer that some driver of a net of the board gives; some cell reads a pin of the net other than the driver's pin
+-- `x` is the observer of some driver of a net of the board, and some cell reads another pin of this net
 pub record ObserverOf (board : RawBoard) (x : Observer) : Type 0 where
   pub number : ℕ
   pub net : Net
@@ -267,7 +263,6 @@ has_observer board n net d is_net h beside =
     (has_filter (is_read_beside (readers_of board net.pins)) (drivers_of board net) d h
     beside)))
 
--- the cell of an observer's control has a position in data scans
 pub observer_below : (board : RawBoard) → IsBoard board → (x : Observer) (p : ℕ)
     → Has (observers board board.nets) x → x.control ≡ Some p → p < data_bits board
 observer_below board rules x p h e = by_control s.driver.ctl refl
@@ -289,7 +284,6 @@ observer_below board rules x p h e = by_control s.driver.ctl refl
         (position_within board c.part c.cell
         (control_there board rules s.net s.driver s.is_in c k))
 
--- the net of an observer is a net of the board, and the observer's cell has a position in data scans
 pub observer_stands : (board : RawBoard) → IsBoard board → (x : Observer)
     → Has (observers board board.nets) x
     → (x.cell.net < length board.nets) × (x.cell.position < data_bits board)
@@ -304,17 +298,14 @@ observer_stands board rules x h =
       omega (arith, position_within board k.at.part k.entry.num (entry_below board rules k.at k.entry k.is_entry), position),
     )
 
--- if a pass holds a control, the list of the pass has the control
 pub holds_has : (pass : List Ctl) (c : Ctl) → holds pass c ≡ true → Has pass c
 holds_has pass c h =
     let f = any_place (same_ctl c) pass h in
     has_at pass f.place c (f.stands ∙ ap (λ (x : Ctl). Some x) (sym (same_equal c f.item f.passes)))
 
--- if the list of a pass has a control, the pass holds the control
 pub has_holds : (pass : List Ctl) (c : Ctl) → Has pass c → holds pass c ≡ true
 has_holds pass c h = let p = has_place pass c h in any_at (same_ctl c) pass p.0 c p.1 (same_refl c)
 
--- if two controls are cells of their parts and have the same position, they are equal
 position_once : (board : RawBoard) (c e : Ctl) → c.cell < cell_count (device_at board c.part)
     → e.cell < cell_count (device_at board e.part)
     → control_position board e ≡ control_position board c → e ≡ c
@@ -334,7 +325,6 @@ module _ (board : RawBoard) (rules : IsBoard board) (quiet : List Bool) (pass : 
   abbrev held : List HeldCell
   held = map (held_cell board quiet) pass
 
-  -- if a pass enables a driver with a control, the cell of this control is one of the held cells
   control_on : (ctl : Option Ctl) → is_driver_on (holds pass) ctl ≡ true → IsOn held (option_map (control_position board) ctl)
   control_on None on p e = let bad : None ≡ Some p = e in cc bad
   control_on (Some c) on p e =
@@ -352,7 +342,6 @@ module _ (board : RawBoard) (rules : IsBoard board) (quiet : List Bool) (pass : 
       let same : m.0 ≡ c = position_once board c (m.0) (below c refl) (there (m.0) has) (ap (λ (x : HeldCell). x.position) m.2 ∙ h.2) in
       subst (λ (x : Ctl). holds pass x ≡ true) same has
 
-  -- if a pass enables an observer, the observer's cell is a driver cell of the pass
   pub is_cell : (d : DriverCell) → OnBy (observers board board.nets) held d → IsDriverCell board pass d
   is_cell d o =
       let s = observer_of board o.observer o.is_in in

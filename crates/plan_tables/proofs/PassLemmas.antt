@@ -1,4 +1,4 @@
--- A lemma about a fold over the driver cells of a pass, which are collected control by control.
+-- A fold over the driver cells of a pass may go over the controls of the pass in turn.
 use Rattle.std.proofs.Common.{◌≡◌, Bool, List, [], ◌++◌, fold, get_or, sym, ap, ◌∙◌}
 use Rattle.std.specs.List.{flat_map}
 use Rattle.std.proofs.lemmas.List.Folds.{flat_map-map}

@@ -21,7 +21,7 @@ use Rattle.tap_defs.proofs.board.NetRuleLemmas.{all_read, board_rules}
 use Rattle.tap_defs.proofs.board.QuietLemmas.{device_of}
 use Rattle.tap_defs.proofs.board.ReadingLemmas.{IsRead}
 
--- the part of a pin of net `n` has a device, and the pin's place in the nets is place `place` of net `n`
+-- the pin at `at` is at place `place` of net `n`, and its part has a device
 pub record Standing (board : RawBoard) (n : ℕ) (net : Net) (place : ℕ) (at : PinAt) : Type 0 where
   pub device : RawDevice
   pub is_device : device_at board at.part ≡ Some device
@@ -74,7 +74,6 @@ pub entry_on : (board : RawBoard) (at : PinAt) (device : RawDevice)
     → device_at board at.part ≡ Some device → entry_at board at ≡ driving_entry device at.bit
 entry_on board at device e = ap (λ (o : Option RawDevice). option_and_then (λ x. driving_entry x at.bit) o) e
 
--- the driving entry of a port bit is the driving entry of its cell
 pub driving_cell_is : (device : RawDevice) → IsWired device → (bit : ℕ) (entry : Cell)
     → Drives device bit entry → driving_cell device entry.num ≡ Some entry
 driving_cell_is device wired bit entry d =
@@ -89,7 +88,6 @@ driving_cell_is device wired bit entry d =
 pub on_self : (bit : ℕ) (o : Option ℕ) → o ≡ Some bit → is_on bit o ≡ true
 on_self bit o e = ap (λ (x : Option ℕ). is_on bit x) e ∙ eq-eqb bit bit refl
 
--- conversely, the driving entry of a cell is the driving entry of its port bit
 pub driving_entry_is : (device : RawDevice) → IsWired device → (cell : ℕ) (entry : Cell) (bit : ℕ)
     → driving_cell device cell ≡ Some entry → entry.bit ≡ Some bit →
     (driving_entry device bit ≡ Some entry) × (entry.num ≡ cell)
@@ -102,7 +100,6 @@ driving_entry_is device wired cell entry bit e b =
     let same : y.0 ≡ entry = wired.one_driver f.1.0 g.1.0 entry y.0 bit f.1.1 here g.1.1 g.0 in
     (y.1 ∙ ap (λ (c : Cell). Some c) same, eqb-true entry.num cell p.0)
 
--- an entry whose function makes a pin a receiver is the reading entry of its cell
 pub reading_entry_is : (device : RawDevice) → IsRead device → (index : ℕ) (entry : Cell)
     → slice_get device.cells index ≡ Some entry → is_receiving entry.role ≡ true →
     reading_entry device entry.num ≡ Some entry

@@ -1,4 +1,4 @@
--- Lemmas which say that the tables that the code makes are the tables of a plan.
+-- Proofs that the tables that the code makes are a plan of the board.
 use Rattle.std.proofs.Common.{◌≡◌, ℕ, zero, suc, ◌+◌, ◌^◌, ◌<◌, ◌≤◌, Bool, true, false, not, cond, List, [], ◌∷◌, length, map, take, drop, get_or, Option, Some, None, unwrap_or, refl, sym, ap, ◌∙◌, subst, arith, ◌⊎◌, inl, inr}
 use Rattle.std.specs.Prelude.{slice_get, option_map, count_by}
 use Rattle.std.proofs.lemmas.Bool.{cases_lt}
@@ -120,7 +120,6 @@ module _ (board : RawBoard) (rules : IsBoard board) where
           ap (λ (b : Bool). let x : HeldCell = record { position = first_position board s.control.part + s.control.cell; bit = b } in x) bit
           ∙ ap (λ (m : ℕ). let x : HeldCell = record { position = m; bit = h.bit } in x) (sym s.position_is)
 
--- the number of `true` among the first n test results is the number of items among the first n items that satisfy the test
 count_map : {X : Type 0} (p : X → Bool) (xs : List X) (n : ℕ) → count_by (λ b. b) (take n (map p xs)) ≡ count_by p (take n xs)
 count_map p xs zero = refl
 count_map p [] (suc n) = refl
@@ -144,14 +143,13 @@ width_most n width few least = by_order (cases_lt most_rows width)
     by_order (inl more) = let h : most_nets + 2 < n + 2 = least most_rows more in absurd (omega (arith, h, few))
     by_order (inr most) = most
 
--- a net has at most as many pins as a board may have
 pub pins_most : (board : RawBoard) → IsBoard board → (k : ℕ) (d : Net) → k < length board.nets
     → length (get_or board.nets k d).pins ≤ most_pins
 pins_most board rules k d less =
     let f : Net → ℕ = λ net. length net.pins in
     omega (arith, rules.pins_most, sum_by-take-drop f board.nets k, sum_by-drop_more f board.nets k d less)
 
--- if each table has the contents that its definition requires, the tables together are a plan for the board
+-- Collects what the definition of a plan requires.
 pub is_plan : (board : RawBoard) → IsBoard board → (plan : PlanTables)
     → ArePlannable board plan.passes → plan.quiet.bits ≡ bits_of_parts (quiet_bits board) board →
     AreNetTables board plan.nets → AreFirsts board.chain plan.firsts
@@ -233,7 +231,6 @@ is_plan board rules plan plannable quiet nets_are firsts tables seen seen_is cod
         ∙ ap (λ (b : Bool). cond b (suc (count_by (λ b. b) (take n seen))) 0) here
         ∙ ap (λ (k : ℕ). cond (p net) (suc k) 0) before
 
--- the number of codes is at most the limit on the nets of a board
 pub count_most : (board : RawBoard) → IsBoard board
     → (steady : List DriverCell) (table : DriverTable) (passes : List (List Ctl)) (codes : NetCodes)
     →

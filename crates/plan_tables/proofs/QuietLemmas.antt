@@ -1,4 +1,4 @@
--- Lemmas which say that three walks over the entries of a device give the device's bits of the quiet row.
+-- Proofs that three walks over the entries of a device give the device's bits of the quiet row.
 use Rattle.std.proofs.Common.{◌≡◌, ℕ, zero, suc, ◌<◌, ◌==◌, Bool, true, false, cond, ◌&&◌, List, [], ◌∷◌, length, get_or, set, replicate, Option, Some, None, unwrap_or, refl, sym, ap, ◌∙◌, arith, ◌⊎◌, inl, inr}
 use Rattle.std.specs.Prelude.{slice_get, option_and_then, option_map, filter_map}
 use Rattle.std.specs.List.{list_any, cons_option}
@@ -55,7 +55,7 @@ record Gives (gives : Cell → Option CellBit) (entries : List Cell) (cell : ℕ
   is_value : gives entry ≡ Some value
   cell_is : value.cell ≡ cell
 
--- if each entry sets a correct bit, and the entries cover each bit that was not correct, a walk gives the correct bits
+-- If each entry sets a correct bit, and the entries cover each bit that differs, one walk makes all bits correct.
 walk_is : (gives : Cell → Option CellBit) (entries : List Cell) (n : ℕ) (g h : ℕ → Bool) →
     ((i : ℕ) (e : Cell) (c : CellBit) → slice_get entries i ≡ Some e → gives e ≡ Some c → (c.cell < n) × (h c.cell ≡ c.bit)) →
     ((cell : ℕ) → cell < n → (g cell ≡ h cell) ⊎ Gives gives entries cell) → set_by gives (filled n g) entries ≡ filled n h
@@ -122,7 +122,6 @@ one_writing device one i j e d ei re dj rd num =
     let there : Some d ≡ Some e = sym dj ∙ ap (λ (k : ℕ). slice_get device.cells k) (sym same) ∙ ei in
     cc there
 
--- if no cell has two entries whose functions are among `roles`, `entry_of` finds each such entry by its cell
 entry_is : (roles : Role → Bool) (device : RawDevice) → HasOne roles device → (i : ℕ) (e : Cell) →
     slice_get device.cells i ≡ Some e → roles e.role ≡ true → entry_of roles device e.num ≡ Some e
 entry_is roles device one i e stands role =
@@ -133,8 +132,7 @@ entry_is roles device one i e stands role =
     let p = and_parts (y.0.num == e.num) (roles y.0.role) f.0 in
     y.1 ∙ ap (λ (x : Cell). Some x) (one i f.1.0 e y.0 stands role f.1.1 p.1 (eqb-true y.0.num e.num p.0))
 
--- If `h` has the safe value of each cell with an entry whose function is among `roles`, and agrees with `g` on the other cells, then a walk
--- over these entries turns the bits of `g` into the bits of `h`.
+-- One walk over the entries with a function in `roles` turns the bits of `g` into the bits of `h`.
 safe_walk : (roles : Role → Bool) (device : RawDevice) → IsDevice device → HasOne roles device → (g h : ℕ → Bool) →
     ((cell : ℕ) (e : Cell) → entry_of roles device cell ≡ Some e → h cell ≡ bit_of e.safe)
     → ((cell : ℕ) → entry_of roles device cell ≡ None → g cell ≡ h cell) →
@@ -253,7 +251,6 @@ module _ (board : RawBoard) (part : ℕ) (device : RawDevice) (is : IsDevice dev
   device_wired : IsWired device
   device_wired = wired device is
 
-  -- the control of a driver's entry controls a driver
   controlled : (i : ℕ) (e : Cell) (control : Control) → slice_get device.cells i ≡ Some e
       → is_driver board part e ≡ true → e.ctl ≡ Some control →
       list_any (controls_driver board part control.cell) device.cells ≡ true

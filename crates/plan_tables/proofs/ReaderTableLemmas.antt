@@ -14,14 +14,13 @@ use Rattle.plan_tables.specs.inner.Laid.{steady}
 use Rattle.plan_tables.proofs.LaidLemmas.{laid_at}
 use Rattle.plan_tables.proofs.PinLemmas.{read_at}
 
--- the table has the compared cells of each net
+-- item `n` of the table has the compared cells of net `n`
 abbrev pub ReadersOf : RawBoard → List (List ReaderCell) → Type 0
 ReadersOf board readers =
     (n : ℕ) (net : Net) → slice_get board.nets n ≡ Some net
     → ((r : ReaderCell) → Has (get_or readers n []) r → IsReaderCell board net r)
     × ((r : ReaderCell) → IsReaderCell board net r → Has (get_or readers n []) r)
 
--- the position of a compared cell is less than the number of bits in a data scan
 reader_within : (board : RawBoard) → IsBoard board → (net : Net) (r : ReaderCell) → IsReaderCell board net r → r.position < data_bits board
 reader_within board rules net r s =
     let place = has_place s.device.cells s.entry (contains_has s.device.cells s.entry s.is_entry) in

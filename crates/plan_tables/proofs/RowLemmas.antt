@@ -1,4 +1,4 @@
--- Lemmas which say that setting cells does not change the length of a row.
+-- Proofs that setting bits leaves the length of a row unchanged.
 use Rattle.std.proofs.Common.{◌≡◌, ℕ, ◌==◌, Bool, true, false, cond, List, [], ◌∷◌, length, get_or, set, refl, ◌∙◌, length-set}
 use Rattle.plan_tables.specs.declared.tables.DriverCell.{DriverCell}
 use Rattle.net_pins.specs.declared.nets.ReaderCell.{ReaderCell}

@@ -1,5 +1,5 @@
--- Samples of the rows of a bus with two drivers and a receiver, of codes, and of the cells of controls. The values are
--- computed by hand.
+-- Samples of the rows of a bus with two drivers and a receiver, of codes, and of the cells of controls. The expected values are worked out
+-- by hand.
 use Rattle.std.proofs.Common.{◌≡◌, ℕ, zero, suc, ◌<◌, Bool, true, false, List, [], ◌∷◌, map, take, replicate, Option, Some, None, refl, arith}
 use Rattle.std.specs.Prelude.{cond, count_by, slice_index_or, slice_set}
 use Rattle.std.specs.List.{list_any}
@@ -12,11 +12,11 @@ use Rattle.plan_tables.specs.inner.Building.{table_of}
 use Rattle.plan_tables.specs.inner.Codes.{AreCodes}
 use Rattle.plan_tables.specs.inner.Steady.{steady_cells, moving}
 
--- the quiet row, in which both drivers of the bus are disabled at 1
+-- the quiet row, in which the control cells of both drivers of the bus have the disable value 1
 abbrev quiet : List Bool
 quiet = false ∷ false ∷ true ∷ false ∷ true ∷ []
 
--- the cell of the driver that a pass enables by 0 at position 4
+-- the cell of a driver that a pass enables with a 0 at position 4
 abbrev enabled : DriverCell
 enabled = record { net = 0; place = 0; position = 3 }
 
@@ -42,7 +42,7 @@ mask = refl
 have_one : map (list_any (λ bit. bit)) (replicate 5 false ∷ compared (λ d. true) ∷ []) ≡ false ∷ true ∷ []
 have_one = refl
 
--- only the nets that are observed have codes
+-- of five nets, some pass observes nets 0, 2 and 3
 abbrev seen : List Bool
 seen = true ∷ false ∷ true ∷ true ∷ false ∷ []
 

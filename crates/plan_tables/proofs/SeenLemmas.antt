@@ -1,4 +1,4 @@
--- Lemmas which say that the nets with a driver cell in some pass are the nets that some pass observes.
+-- Proofs that the nets with a driver cell in some pass are the nets that some pass observes.
 use Rattle.std.proofs.Common.{◌≡◌, ℕ, ◌+◌, ◌<◌, Bool, true, false, List, [], ◌∷◌, ◌++◌, fold, set, length, map, get_or, replicate, Option, Some, None, is_some, refl, sym, ap, ◌∙◌, arith, ◌⊎◌, inl, inr}
 use Rattle.std.specs.Prelude.{slice_get, option_map}
 use Rattle.std.specs.Cmp.{both_ways}
@@ -27,7 +27,6 @@ use Rattle.board_defs.specs.declared.board.PinAt.{PinAt}
 use Rattle.board_defs.specs.Pins.{entry_at}
 use Rattle.tap_defs.proofs.board.FeedingLemmas.{Observing, observing_at}
 
--- if a pass observes a net by a driver, the pass has the cell of that driver
 pub driver_cell : (board : RawBoard) (pass : List Ctl) (n : ℕ) (net : Net) (place : ℕ)
     → slice_get board.nets n ≡ Some net → observing_driver board (holds pass) net ≡ Some place →
     (d : DriverCell) × IsDriverCell board pass d × (d.net ≡ n) × (d.place ≡ place)
@@ -67,7 +66,6 @@ driver_cell board pass n net place is_net observing = by_at o.pin.at refl o.enab
 abbrev all_cells : RawBoard → List Bool → List (List Ctl) → List DriverCell → DriverTable → List DriverCell
 all_cells board quiet passes steady table = steady ++ flat_map (λ pass. (pass_cells_of board quiet table pass).drivers) passes
 
--- setting the flags of the nets pass by pass gives the same flags as going through the driver cells of all passes
 marked_passes : (board : RawBoard) (quiet : List Bool) (table : DriverTable) (passes : List (List Ctl)) (flags : List Bool) →
     fold (marked_on board table) flags passes
     ≡ with_nets_marked flags
@@ -140,7 +138,6 @@ module _ (board : RawBoard) (quiet : List Bool) (passes : List (List Ctl))
           let place = has_place passes (m.0) m.1 in
           of (place.0) (m.0) place.1 (has_right steady (own_cells (m.0)) d m.2)
 
-  -- each driver cell of a pass is one of the driver cells of all passes
   of_pass : (x : ℕ) (pass : List Ctl) → slice_get passes x ≡ Some pass → (d : DriverCell) → IsDriverCell board pass d → Has all d
   of_pass x pass e d is =
       by_part

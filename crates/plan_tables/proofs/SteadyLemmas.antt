@@ -27,7 +27,6 @@ use Rattle.plan_tables.proofs.ObserverLemmas.{observer_below, observer_stands, i
 use Rattle.plan_tables.proofs.PlanLemmas.{held_only, is_held_cell}
 use Rattle.plan_tables.proofs.HeldLemmas.{control_cells}
 
--- if pass `k` has a control with its cell at a position, `AreRuns` still holds after `run_at` notes that position
 run_goes_on : (passes : List (List HeldCell)) (runs : List ℕ) (k : ℕ) (h : HeldCell)
     → Has (get_or passes k []) h → AreRuns passes runs → AreRuns passes (run_at k runs h.position)
 run_goes_on passes runs k h has are position x less = by_test (get_or runs h.position 0 == k) refl less
@@ -84,7 +83,6 @@ pub held_at : (board : RawBoard) (quiet : List Bool) (passes : List (List Ctl)) 
     → get_or (held_by board quiet passes) x [] ≡ map (held_cell board quiet) (get_or passes x d)
 held_at board quiet passes x d less = get_or-map (λ (pass : List Ctl). map (held_cell board quiet) pass) passes x d [] less
 
--- the flag at the cell of each control of a pass is true
 pub flagged : (board : RawBoard) (quiet : List Bool) (passes : List (List Ctl)) (uses : Uses)
     → AreUses board quiet passes uses → (x : ℕ) (pass : List Ctl) → slice_get passes x ≡ Some pass
     → (h : HeldCell) →
@@ -125,7 +123,6 @@ steady_of uses passes observers d h =
     let f = filter_has (is_steady uses passes) observers (m.0) m.1 in
     record { observer = m.0; is_in = f.0; steady = steady_parts uses passes (m.0) f.1; cell_is = m.2 }
 
--- if a control is common to the first n passes, each of these passes holds the cell of this control
 common_on : (passes : List (List HeldCell)) (n : ℕ) (uses : Uses) → AreRuns passes uses.runs
     → (control : Option ℕ) → is_common uses n control ≡ true → (x : ℕ) → x < n
     → IsOn (get_or passes x []) control
@@ -177,7 +174,6 @@ module _ (board : RawBoard) (rules : IsBoard board) (quiet : List Bool)
         ∙ ap (λ (l : List Ctl). map (held_cell board quiet) l)
         (get_or_from_slice_get passes x pass pass e)
 
-    -- a steady driver is enabled in this pass
     steady_on : (d : DriverCell) → SteadyOf uses (length passes) all d → OnBy all held d
     steady_on d s = record {
       observer = s.observer;
@@ -201,7 +197,6 @@ module _ (board : RawBoard) (rules : IsBoard board) (quiet : List Bool)
     on_all d (inl h) = steady_on d (steady_of uses (length passes) all d h)
     on_all d (inr h) = own_on d (cells_has others bits held d h)
 
-    -- the cell of each driver that the pass enables is steady, or is among the pass's own driver cells
     all_on : (d : DriverCell) → OnBy all held d → Has (steady ++ own) d
     all_on d o = by_test (is_steady uses (length passes) o.observer) refl
       where
@@ -228,7 +223,6 @@ module _ (board : RawBoard) (rules : IsBoard board) (quiet : List Bool)
               cell_is = o.cell_is;
             }))
 
-    -- the cell of a control of the pass is not steady
     apart : (h : HeldCell) (d : DriverCell) → Has held h → SteadyOf uses (length passes) all d → h.position ≡ d.position → ⊥
     apart h d has s same =
         let at : h.position ≡ s.observer.cell.position = same ∙ ap (λ (c : DriverCell). c.position) (sym s.cell_is) in

@@ -1,4 +1,4 @@
--- Lemmas which say that the tables that the code makes are the tables of the definitions.
+-- Proofs that the tables that the code makes have the contents that the definitions require.
 use Rattle.std.proofs.Common.{◌≡◌, ℕ, zero, suc, ◌+◌, ◌==◌, Bool, true, false, not, cond, ◌&&◌, ◌||◌, List, [], ◌∷◌, ◌++◌, map, Option, Some, None, refl, sym, ap, ◌∙◌, subst, arith, ◌⊎◌, inl, inr}
 use Rattle.std.specs.Prelude.{slice_get, option_and_then, option_map, filter}
 use Rattle.std.specs.List.{list_any}
@@ -25,7 +25,6 @@ use Rattle.net_pins.specs.NetCells.{gathered, optional, net_driver, driver_of, d
 use Rattle.net_pins.specs.Enabled.{is_driver_on, enabled_in, observing_of}
 use Rattle.plan_tables.specs.Tables.{first_position, IsReaderCell}
 
--- an item of a gathered list comes from an item of the list from which it was gathered
 pub has_gathered : {X Y : Type 0} (f : ℕ → X → List Y) (k : ℕ) (xs : List X) (y : Y)
     → Has (gathered f k xs) y → (n : ℕ) × (x : X) × (slice_get xs n ≡ Some x) × Has (f (k + n) x) y
 has_gathered f k [] y h = absurd h
@@ -53,7 +52,6 @@ gathered_has {X} {Y} f k (z ∷ xs) (suc n) x y e h =
     let next : k + suc n ≡ suc k + n = omega arith in
     has_right (f k z) (gathered f (suc k) xs) y (gathered_has f (suc k) xs n x y e (subst (λ (m : ℕ). Has (f m x) y) next h))
 
--- each item of `readers_of` is a compared cell of the net
 pub reader_is : (board : RawBoard) (net : Net) (r : ReaderCell) → Has (readers_of board net.pins) r → IsReaderCell board net r
 reader_is board net r h = let g = has_gathered (λ place pin. readers_at board place pin.at) 0 net.pins r h in by_pin (g.0) (g.1) g.2 g.3
   where
@@ -203,7 +201,6 @@ first_on board s k (pin ∷ pins) = by_at pin.at refl (enabled_in s (pin_drivers
         (later o (ap (λ (x : Option PinAt). enables_where board s x) a) r)
     by_at (Some at) a o w r = by_entry at a (entry_at board at) refl o w r
 
--- if a test gives `t` for every item of a list that is not empty, `list_any` gives `t`
 any_const : {X : Type 0} (t : Bool) (f : X → Bool) (xs : List X) (x : X) → Has xs x → ((y : X) → f y ≡ t) → list_any f xs ≡ t
 any_const t f [] x h same = absurd h
 any_const {X} t f (y ∷ xs) x h same = ap (λ (b : Bool). b || list_any f xs) (same y) ∙ by_test t (rest xs)

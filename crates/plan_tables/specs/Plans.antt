@@ -1,4 +1,4 @@
--- The definition of a plan for a board.
+-- The definition of a plan for a board. A plan has the tables from which each scan of the board's test is made.
 use Rattle.std.specs.Prelude.{◌≡◌, ℕ, Bool, true, false, cond, List, length, Option, Some, None, slice_get, slice_index_or}
 use Rattle.std.specs.List.{list_any}
 use Rattle.board_defs.specs.declared.device.RawDevice.{RawDevice}
@@ -13,11 +13,12 @@ use Rattle.plan_tables.specs.declared.tables.PlanTables.{PlanTables}
 use Rattle.plan_tables.specs.Tables.{ArePlanTables}
 use Rattle.net_pins.specs.Tables.{AreNetTables}
 
--- The largest number of rows of a pass, which is the largest number of bits of a code. `most_nets` nets need 14 bits, since `most_nets + 2` is 2^14.
+-- The largest number of rows of a pass, which is the largest number of bits of a code. `most_nets` nets need 14 bits, since `most_nets + 2`
+-- is 2^14.
 abbrev pub most_rows : ℕ
 most_rows = 14
 
--- the part of control `c` has a device, and the control controls a driver of this device
+-- the part of control `c` has the description `device`, and the control controls a driver of this device
 abbrev pub controls_driver_in : RawBoard → Ctl → Option RawDevice → Bool
 controls_driver_in board c None = false
 controls_driver_in board c (Some device) = list_any (controls_driver board c.part c.cell) device.cells
@@ -35,7 +36,7 @@ pub record ArePlannable (board : RawBoard) (passes : List (List Ctl)) : Type 0 w
 abbrev pub code_or_zero : RawBoard → List (List Ctl) → ℕ → Net → ℕ
 code_or_zero board passes n net = cond (is_observed board passes net) (code_of_net board passes n) 0
 
--- `plan` is a plan of the board for the passes that the plan has
+-- `plan` is a plan of the board for the passes in `plan.passes`
 pub record IsPlanOf (board : RawBoard) (plan : PlanTables) : Type 0 where
   pub plannable : ArePlannable board plan.passes
   pub width_is : plan.width ≡ code_width (observed_count board plan.passes)

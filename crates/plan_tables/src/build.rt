@@ -1,4 +1,4 @@
-// Makes the tables of a plan.
+// Makes the tables of a plan. Each scan of a board's test is made from these tables.
 ghost use Rattle.std.specs.Prelude.{◌≡◌, ◌<◌, ◌≤◌, ◌^◌, length, IfOk};
 ghost use Rattle.net_pins.specs.Tables.{AreNetPins};
 ghost use Rattle.plan_tables.specs.Tables.{pass_cells_of};
@@ -30,14 +30,14 @@ struct PassParts {
     codes: NetCodes,
 }
 
-// The parts of a plan that are made here. The others are the pins and the passes, which the plan takes from the caller.
+// The parts of a plan that this module makes. The caller gives the other parts: the pins and the passes.
 #[derive(Drop)]
 struct PlanParts {
     rows: BoardRows,
     passes: PassParts,
 }
 
-// Returns the rows that all passes share.
+// Returns the rows that all passes share: the quiet row and the rows of the two instruction scans.
 fn board_rows(alloc: Global, board: &Board) -> Result<BoardRows, AllocError>
     ensures { IfOk result (λ rows. AreBoardRows board.now rows) }
 {
@@ -51,7 +51,9 @@ fn board_rows(alloc: Global, board: &Board) -> Result<BoardRows, AllocError>
     })
 }
 
-// Returns the driver table of the observers that are not steady.
+// Returns the driver table of the observers that are not steady. An observer is a driver by which its net can be
+// observed. It is steady if every pass enables it and no pass has a control with the observer's cell. `passes` is the
+// number of passes, and `bits` is the number of bits in a data scan.
 fn moving_table(
     alloc: Global,
     uses: &Uses,
@@ -65,7 +67,7 @@ fn moving_table(
     driver_table(alloc, others.as_slice(), bits)
 }
 
-// Splits the observers: returns the steady cells, which all passes share, and the table of the other observers.
+// Returns the cells of the steady observers, which all passes share, and the table of the other observers.
 fn cells_by(
     alloc: Global,
     uses: &Uses,
@@ -82,7 +84,8 @@ fn cells_by(
     Ok(PassTables { steady, by_control })
 }
 
-// Returns the driver cells of the passes.
+// Returns the driver cells of the passes. `pins` must be the pins of the board's nets, and `quiet` must be the board's
+// quiet row.
 fn pass_tables(
     alloc: Global,
     placed: &PlacedBoard,
@@ -112,7 +115,8 @@ fn pass_tables(
     )
 }
 
-// Returns the driver cells of the passes, and the codes of the nets that the passes observe.
+// Returns the driver cells of the passes, and the codes of the nets that the passes observe. `pins` must be the pins of
+// the board's nets, and `quiet` must be the board's quiet row.
 fn pass_parts(
     alloc: Global,
     board: &Board,
@@ -142,7 +146,8 @@ fn pass_parts(
     Ok(PassParts { cells, codes })
 }
 
-// Returns the parts of a plan. The pins and the passes are borrowed, so this function never drops them.
+// Returns the parts of a plan that this module makes. The pins and the passes are borrowed, so this function never
+// drops them.
 fn plan_parts(
     alloc: Global,
     board: &Board,
@@ -166,7 +171,8 @@ fn plan_parts(
     Ok(PlanParts { rows, passes })
 }
 
-/// Returns the tables of the plan for these passes. `pins` must be the pins of the board's nets.
+/// Returns the tables of the plan for these passes. `pins` must be the pins of the board's nets. Each pass must be
+/// safe, and each of its controls must control a driver of the board. There must be fewer than 2^32 passes.
 pub fn tables_of(
     alloc: Global,
     board: &Board,

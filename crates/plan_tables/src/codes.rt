@@ -53,8 +53,8 @@ fn mark_passes(placed: &PlacedBoard, table: &DriverTable, passes: &[Setting], fl
     }
 }
 
-// Returns a flag for each of the first `nets` nets. The flag says whether the net has a driver cell that is steady or
-// belongs to a pass.
+// Returns a flag for each of the first `nets` nets. The flag is true if the net has a driver cell that is steady or
+// belongs to a pass. Each control of a pass must be a cell of its part.
 fn seen_nets(
     alloc: Global,
     placed: &PlacedBoard,
@@ -75,7 +75,8 @@ fn seen_nets(
     Ok(seen)
 }
 
-// Returns the codes of the nets. The observed nets are numbered from 1 in net order. Every other net has code 0.
+// Returns the codes of the nets. A net whose flag in `seen` is false has code 0. The other nets are numbered from 1 in
+// net order. There must be at most `most_nets` flags.
 fn number_nets(alloc: Global, seen: &[bool]) -> Result<NetCodes, AllocError>
     requires { length seen.now ≤ most_nets }
     ensures { IfOk result (λ codes. AreCodes seen.now codes) }
@@ -94,8 +95,9 @@ fn number_nets(alloc: Global, seen: &[bool]) -> Result<NetCodes, AllocError>
     })
 }
 
-/// Returns the codes of a board's nets. `nets` is the number of nets. The nets that some pass observes are numbered
-/// from 1 in net order. Every other net has code 0.
+/// Returns the codes of a board's nets. `nets` is the number of nets, at most `most_nets`. The nets that some pass
+/// observes are numbered from 1 in net order. Every other net has code 0. Each control of a pass must be a cell of its
+/// part.
 pub fn net_codes(
     alloc: Global,
     placed: &PlacedBoard,

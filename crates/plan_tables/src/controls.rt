@@ -1,4 +1,4 @@
-// The driver cells of each control. The driver cells of a pass are found from its controls.
+// The driver cells of each control. The driver cells of a pass are looked up here by the controls of the pass.
 ghost use Rattle.std.specs.Prelude.{◌≡◌, ◌<◌, [], slice_index_or, IfOk, OnOk};
 ghost use Rattle.board_defs.specs.Pins.{device_at, cell_count};
 ghost use Rattle.plan_tables.specs.Tables.{AreFirsts, controlled};
@@ -60,7 +60,8 @@ pub fn driver_table(
     })
 }
 
-/// Returns the driver cells of the control whose cell has position `control`. Returns no cells past the last row.
+/// Returns the driver cells of the control whose cell has position `control`, or no cells if this position is past the
+/// last row.
 fn cells_at(rows: &[ControlCells], control: usize) -> &[DriverCell]
     ensures { result.now ≡ slice_index_or rows.now control [] }
 {
@@ -70,7 +71,8 @@ fn cells_at(rows: &[ControlCells], control: usize) -> &[DriverCell]
     }
 }
 
-/// Returns the driver cells of control `c`.
+/// Returns the driver cells of control `c`. `firsts` must have the position of each part's first bit in data scans. `c`
+/// must be a cell of its part.
 pub fn controlled<'a>(
     board: &Board,
     firsts: &[u32],

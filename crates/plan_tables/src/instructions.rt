@@ -69,7 +69,8 @@ fn push_code(
     }
 }
 
-// Appends the captured bits of a part, and their mask. Only the two bits nearest TDO, which are 01, are compared.
+// Appends the expected bits of a part's instruction register to `tdo`, and their mask to `mask`. Only the two bits
+// nearest TDO are compared: first a 1, then a 0. `length` must be at least 2.
 fn push_capture(length: u32, tdo: &mut Vec<bool>, mask: &mut Vec<bool>) -> Result<(), AllocError>
     requires { 2 ≤ length }
     ensures tdo { OnOk result (tdo.new.items ≡ tdo.old.items ++ captured_bits length) }
@@ -81,7 +82,7 @@ fn push_capture(length: u32, tdo: &mut Vec<bool>, mask: &mut Vec<bool>) -> Resul
     push_same(length - 2, false, mask)
 }
 
-// Returns stored rows with these bits.
+// Returns these bits as stored rows. Each row must have at most `most_bits` bits.
 fn stored(
     alloc: Global,
     tdi: &[bool],

@@ -1,13 +1,14 @@
 //! The tables of a plan, from which each scan of a board's test is made.
 //!
-//! `tables_of` makes the tables for a board and passes. Each pass must be safe, and each of its controls must enable a
+//! `tables_of` makes the tables for a board and passes. Each pass must be safe, and each of its controls must control a
 //! driver of the board. The tables have:
 //!
 //! - the two instruction scans and the quiet row;
 //! - the positions of the cells at which the data rows differ from the quiet row;
 //! - for each net, its code, its drivers and the cells that read it.
 //!
-//! The other calls find the cells of a pass in these tables. `scan_planner` fills the scans with them.
+//! The other public functions find the cells of a pass in these tables. `scan_planner` uses these cells to fill the
+//! scans.
 #![tactic(auto)]
 
 mod build;

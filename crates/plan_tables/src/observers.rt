@@ -10,8 +10,8 @@ use board_defs::{Board, Ctl, Items};
 use net_pins::{NetDriver, NetPins, NetTables, ReaderCell, cell_position};
 use std::alloc::{AllocError, Global};
 
-/// A driver by which its net can be observed, since another pin of the net has a compared cell. `control` is the
-/// position of its control's cell, if it has a control, and `cell` is its own cell.
+/// A driver by which its net can be observed, because another pin of the net has a compared cell. `control` is the
+/// position of the driver's control cell, if the driver has a control. `cell` is the driver's own cell.
 #[derive(Clone, Copy)]
 pub struct Observer {
     pub control: Option<u32>,
@@ -42,7 +42,8 @@ fn as_observer(placed: &PlacedBoard, net: u32, driver: NetDriver) -> Observer
     }
 }
 
-// Appends each driver of a net for which some compared cell reads another pin of this net.
+// Appends each of these drivers of net `net` as an observer, if some cell in `readers` reads a pin of the net other
+// than the driver's pin.
 fn push_observers(
     placed: &PlacedBoard,
     net: u32,
@@ -63,7 +64,8 @@ fn push_observers(
     Ok(())
 }
 
-// Returns the drivers by which the nets of a board can be observed, in net order.
+// Returns the drivers by which the nets of a board can be observed, in net order. `nets` must have the drivers
+// and the compared cells of the board's nets.
 fn observers_of_nets(
     alloc: Global,
     placed: &PlacedBoard,
@@ -81,7 +83,8 @@ fn observers_of_nets(
     Ok(Items::of(observers))
 }
 
-/// Returns the drivers by which the nets of a board can be observed, in net order.
+/// Returns the drivers by which the nets of a board can be observed, in net order. `pins` must be the pins of the
+/// board's nets.
 pub fn net_observers(
     alloc: Global,
     board: &Board,

@@ -1,4 +1,4 @@
-// Makes the quiet row.
+// Makes the quiet row of a board. This data row disables every driver that has a control.
 ghost use Rattle.std.specs.Prelude.{◌≡◌, ◌≤◌, ◌++◌, false, length, option_map, unwrap_or, IfOk, OnOk};
 ghost use Rattle.board_defs.specs.Limits.{most_parts};
 ghost use Rattle.board_defs.specs.DeviceRules.{is_reading, is_writing, IsDevice};
@@ -19,7 +19,7 @@ pub struct CellBit {
     pub bit: bool,
 }
 
-// Returns the cell of a reading entry and its safe value, with 0 for X. Returns None for any other entry.
+// Returns the cell and the safe value of a reading entry, with 0 for X. Returns None for any other entry.
 fn reading_value(entry: Cell) -> Option<CellBit>
     ensures { result ≡ safe_value_in is_reading entry }
 {
@@ -33,7 +33,8 @@ fn reading_value(entry: Cell) -> Option<CellBit>
     }
 }
 
-// Returns the cell of an entry for an update latch and its safe value, with 0 for X. Returns None for any other entry.
+// Returns the cell and the safe value of an entry that takes its value from the cell's update latch, with 0 for X.
+// Returns None for any other entry.
 fn writing_value(entry: Cell) -> Option<CellBit>
     ensures { result ≡ safe_value_in is_writing entry }
 {
@@ -64,8 +65,8 @@ fn is_driver(raw: &RawBoard, part: u32, entry: Cell) -> bool
     entry.role.is_driving() && is_pinned(raw, part, entry.bit)
 }
 
-// Returns the control cell and the disable value of a driver's entry. Returns None if the entry does not belong to a driver or has no
-// control.
+// Returns the control cell and the disable value of a driver's entry. Returns None if the entry does not belong to a
+// driver, or if it has no control.
 fn disable_value(raw: &RawBoard, part: u32, entry: Cell) -> Option<CellBit>
     ensures { result ≡ disable_value_in raw.now part entry }
 {
@@ -114,7 +115,8 @@ fn set_disabled(raw: &RawBoard, part: u32, entries: &[Cell], row: &mut [bool])
     }
 }
 
-// Returns the bits of a device in the quiet row, after three walks over its entries.
+// Returns the bits of a device in the quiet row. Of three walks over the entries, the later ones overwrite bits of the
+// earlier ones.
 fn device_row(
     alloc: Global,
     raw: &RawBoard,
@@ -181,7 +183,7 @@ fn board_bits(alloc: Global, raw: &RawBoard, chain: &[Part]) -> Result<Vec<bool>
 }
 
 /// Returns the quiet row. In it, each cell that controls a driver has the disable value, and every other cell has its
-/// safe value, with 0 for X.
+/// safe value, with 0 for X. The single bit of a part without a description is 0.
 pub fn quiet_row(alloc: Global, board: &Board) -> Result<Row, AllocError>
     ensures { IfOk result (λ quiet. quiet.bits ≡ bits_of_parts (quiet_bits board.now) board.now) }
 {

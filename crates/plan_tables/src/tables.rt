@@ -37,9 +37,9 @@ pub struct PassTables {
 }
 
 /// The tables of a plan. The instruction scans, the quiet row and the steady driver cells are the same in all passes.
-/// The other cells of a pass are found from its controls, with the position of each part's first bit and the driver
-/// cells of each control. `codes` has the code of each net, and `nets` the net's drivers and compared cells. `width` is
-/// the number of bits of a code.
+/// The other cells of a pass are looked up by its controls, in `firsts` (the position of each part's first bit in data
+/// scans) and in `by_control` (the driver cells of each control). `codes` has the code of each net, and `nets` the
+/// net's drivers and compared cells. `width` is the number of bits of a code.
 #[derive(Drop)]
 pub struct PlanTables {
     pub passes: Items<Setting>,

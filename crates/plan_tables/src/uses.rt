@@ -1,4 +1,4 @@
-// The cells of the controls of all passes, and the driver cells that are the same in all passes.
+// Finds the cells of the controls of all passes, and the driver cells that are the same in all passes.
 ghost use Rattle.std.specs.Prelude.{◌≡◌, ◌+◌, ◌<◌, ◌^◌, true, false, length, slice_index_or, IfOk, OnOk, All};
 ghost use Rattle.board_defs.specs.declared.board.Ctl.{Ctl as ControlRecord};
 ghost use Rattle.board_defs.specs.Pins.{device_at, cell_count, data_bits};
@@ -14,8 +14,8 @@ use bt_bits::Row;
 use lists::{is_set, mark};
 use std::alloc::{AllocError, Global};
 
-/// For each position in data scans, `held` says whether some pass has a control whose cell is there. `runs` has the number of passes, from
-/// the first on, that all have such a control.
+/// For each position in data scans, `held` says whether some pass has a control whose cell is there. `runs` has the
+/// *run* of each position: the number of passes, from the first on, that all have such a control.
 #[derive(Drop)]
 pub struct Uses {
     pub held: Items<bool>,
@@ -30,7 +30,8 @@ fn mark_held(flags: &mut [bool], held: &[HeldCell])
     }
 }
 
-// Notes that pass `k` has a control whose cell is at the position. If all earlier passes have such a control, the run grows by one.
+// Notes that pass `k` has a control whose cell is at the position. If all earlier passes have such a control, the run
+// grows by one. `k + 1` must be below 2^32.
 fn run(runs: &mut [u32], k: u32, position: usize)
     requires { k + 1 < 2 ^ 32 }
     ensures { runs.new ≡ run_at k runs.old position }
@@ -51,7 +52,8 @@ fn run_all(runs: &mut [u32], k: u32, held: &[HeldCell])
     }
 }
 
-// Notes the cells of the controls of these passes.
+// Sets the flags in `held` and extends the runs in `runs` for the controls of these passes. `quiet` must be as long as
+// a data scan. Each control must be a cell of its part.
 fn note_passes(
     alloc: Global,
     placed: &PlacedBoard,
@@ -79,7 +81,8 @@ fn note_passes(
     Ok(())
 }
 
-/// Returns the positions of the cells of the passes' controls, and the run of each position.
+/// Returns the positions of the cells of the passes' controls, and the run of each position. `quiet` must be as long as
+/// a data scan. Each control must be a cell of its part. There must be fewer than 2^32 passes.
 pub fn uses_of(
     alloc: Global,
     placed: &PlacedBoard,
@@ -121,8 +124,8 @@ fn is_common(uses: &Uses, passes: u32, control: Option<u32>) -> bool
     }
 }
 
-// Returns whether each of the first `passes` passes enables the driver, and no pass has a control with the driver's
-// cell.
+// Returns whether the observer is steady: there is at least one pass, each of the first `passes` passes enables the
+// driver, and no pass has a control with the driver's cell.
 fn is_steady(uses: &Uses, passes: u32, observer: Observer) -> bool
     ensures { result ≡ is_steady uses.now passes observer }
 {
@@ -132,8 +135,8 @@ fn is_steady(uses: &Uses, passes: u32, observer: Observer) -> bool
     is_common(uses, passes, observer.control)
 }
 
-/// Returns the cells of the steady observers. An observer is steady if each of the first `passes` passes enables it and its cell is not the
-/// cell of a control.
+/// Returns the cells of the steady observers. An observer is steady if there is at least one pass, each of the first
+/// `passes` passes enables the observer, and its cell is not the cell of a control of any pass.
 pub fn steady_cells(
     alloc: Global,
     uses: &Uses,

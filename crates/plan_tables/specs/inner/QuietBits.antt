@@ -1,4 +1,4 @@
--- The bits of cells, which are computed from the single entries of a device.
+-- The bits of the quiet row, computed from the entries of a device in turn.
 use Rattle.std.specs.Prelude.{ℕ, Bool, false, ◌&&◌, cond, List, fold, Option, Some, None, option_map, unwrap_or, replicate, slice_set}
 use Rattle.board_defs.specs.declared.device.Role.{Role}
 use Rattle.board_defs.specs.declared.device.Cell.{Cell}
@@ -8,7 +8,7 @@ use Rattle.board_defs.specs.DeviceRules.{is_driving, is_reading, is_writing, bit
 use Rattle.board_defs.specs.Pins.{is_pinned}
 use Rattle.plan_tables.specs.declared.quiet.CellBit.{CellBit}
 
--- the cell and the safe value of an entry whose function is one of `roles`, with 0 for X
+-- the cell and the safe value of an entry whose function is one of `roles`, with 0 for X; None for any other entry
 abbrev pub safe_value_in : (Role → Bool) → Cell → Option CellBit
 safe_value_in roles entry = cond (roles entry.role) (Some (record { cell = entry.num; bit = bit_of entry.safe })) None
 
@@ -19,7 +19,7 @@ is_driver board part entry =
     && unwrap_or (option_map (λ bit. is_pinned board (record { part = part; bit = bit })) entry.bit)
     false
 
--- the control cell and the disable value of a driver's entry, if the entry has a control
+-- the control cell and the disable value of a driver's entry, or None if the entry does not belong to a driver or has no control
 abbrev pub disable_value_in : RawBoard → ℕ → Cell → Option CellBit
 disable_value_in board part entry =
     cond (is_driver board part entry)
@@ -34,8 +34,8 @@ set_some bits (Some c) = slice_set bits c.cell c.bit
 abbrev pub set_by : (Cell → Option CellBit) → List Bool → List Cell → List Bool
 set_by gives bits entries = fold (λ done entry. set_some done (gives entry)) bits entries
 
--- The safe values of reading entries, overwritten by the safe values of entries for update latches, and then by the disable values of
--- controls.
+-- The bits of a device in the quiet row. The safe values of reading entries are written first. The safe values of entries that take their
+-- value from the update latch overwrite them. The disable values of controls are written last.
 abbrev pub quiet_values : RawBoard → ℕ → RawDevice → List Bool
 quiet_values board part device =
     set_by (disable_value_in board part)

@@ -43,12 +43,12 @@ pub record AreUses (board : RawBoard) (quiet : List Bool) (passes : List (List C
   pub flags : uses.held ≡ all_marked board quiet (replicate (length quiet) false) passes
   pub runs : AreRuns (held_by board quiet passes) uses.runs
 
--- there is no control, or each of the first `passes` passes has a control with its cell at this position
+-- there is no control, or the run of this position has `passes` passes, so each of these passes has a control with its cell there
 abbrev pub is_common : Uses → ℕ → Option ℕ → Bool
 is_common uses passes None = true
 is_common uses passes (Some control) = slice_index_or uses.runs control 0 == passes
 
--- the observer is steady: each pass enables it, and no pass has a control with the observer's cell
+-- the observer is steady: there is a pass, each pass enables the observer, and no pass has a control with the observer's cell
 abbrev pub is_steady : Uses → ℕ → Observer → Bool
 is_steady uses passes x = nat_lt 0 passes && (not (slice_index_or uses.held x.cell.position false) && is_common uses passes x.control)
 
