@@ -1,4 +1,4 @@
--- Lemmas which say that the controls of nets' drivers, and also the useful controls, control a driver of the board.
+-- Proofs that the controls of nets' drivers, and the useful controls, control a driver of the board.
 use Rattle.std.proofs.Common.{◌≡◌, ℕ, ◌==◌, Bool, true, false, ◌&&◌, Option, Some, None, refl, sym, ap, ◌∙◌}
 use Rattle.std.specs.Prelude.{length, slice_get, unwrap_or, option_map, option_and_then, if◌then◌else◌}
 use Rattle.std.specs.List.{list_any}
@@ -25,7 +25,7 @@ use Rattle.tap_defs.proofs.board.NetRuleLemmas.{board_rules}
 use Rattle.plan_tables.specs.Plans.{controls_driver_in, controls_some}
 use Rattle.plan_tables.proofs.PinLemmas.{Drives, drives_by, entry_on}
 
--- the entry of a driver on this part has a control, and this control is `c`
+-- `o` is the control of an entry of part `part`, and `c` has this part and the cell of this control
 record Names (part : ℕ) (o : Option Control) (c : Ctl) : Type 0 where
   control : Control
   is_control : o ≡ Some control
@@ -58,7 +58,6 @@ names_of board net part cell (Some control) c e = by_own (control.cell == cell.n
     by_own true false k = cc k
     by_own false switched k = named k
 
--- if a driving entry of a port bit with a pin has a control, this control controls a driver of the board
 controls_entry : (board : RawBoard) (at : PinAt) (device : RawDevice) (cell : Cell) (c : Ctl)
     → device_at board at.part ≡ Some device → is_pinned board at ≡ true →
     Drives device at.bit cell → Names at.part cell.ctl c → controls_some board c ≡ true
@@ -76,7 +75,6 @@ controls_entry board at device cell c dev pinned d n =
     has_pin : ℕ → Option ℕ → Bool
     has_pin part o = unwrap_or (option_map (λ bit. is_pinned board (record { part = part; bit = bit })) o) false
 
--- if a pin of a net is a driver with a control, this control controls a driver of the board
 controls_pin : (board : RawBoard) → IsBoard board
     → (n : ℕ) (net : Net) (place : ℕ) (pin : NetPin) (c : Ctl) → slice_get board.nets n ≡ Some net →
     slice_get net.pins place ≡ Some pin → drive board net pin ≡ Some (By c) → controls_some board c ≡ true
@@ -109,7 +107,6 @@ net_controls board rules c h =
     (λ (q : NetPin). is_by c (drive board n.item q)) n.item.pins n.passes in
     controls_pin board rules n.place n.item p.place p.item c n.stands p.stands (by_true c (drive board n.item p.item) p.passes)
 
--- a net with a tested driver that control `c` controls has a driver that `c` controls
 tests_drives : (board : RawBoard) (c : Ctl) (net : Net) → tests_by board c net ≡ true → drives_net board c net ≡ true
 tests_drives board c net h =
     let t : FoundBelow (length net.pins) (tests_by_at board c net) = below_place (length net.pins) (tests_by_at board c net) h in
@@ -122,7 +119,6 @@ tests_drives board c net h =
     by_pin place None e k = cc k
     by_pin place (Some pin) e k = any_at (λ (q : NetPin). is_by c (drive board net q)) net.pins place pin e k
 
--- a useful control controls a driver of the board
 pub useful_controls : (board : RawBoard) → IsBoard board → (c : Ctl) → is_useful board c ≡ true → controls_some board c ≡ true
 useful_controls board rules c h =
     let n : Found (tests_by board c) board.nets = any_place (tests_by board c) board.nets

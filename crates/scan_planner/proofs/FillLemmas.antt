@@ -1,4 +1,4 @@
--- Lemmas which say that rows filled from a plan's tables hold the plan's scan.
+-- Proofs that rows filled from a plan's tables hold the plan's scan.
 use Rattle.std.proofs.Common.{◌≡◌, ℕ, suc, ◌+◌, ◌*◌, ◌<◌, ◌≤◌, Bool, true, false, cond, List, [], ◌++◌, length, get_or, set, replicate, Option, Some, is_some, unwrap_or, sym, ap, ◌∙◌, subst, arith}
 use Rattle.std.specs.Prelude.{slice_get, All}
 use Rattle.std.specs.List.{list_any}
@@ -46,7 +46,6 @@ use Rattle.scan_planner.proofs.ReaderLemmas.{Pair, pairs, set_compared_is, tdo_c
 use Rattle.plan_tables.proofs.PassLemmas.{fold_on}
 use Rattle.plan_tables.proofs.SizeLemmas.{IsSized}
 
--- rows with the bits and the shape of scan `k` hold the scan, as `FillsScan` states
 pub fills : (board : RawBoard) (passes : List (List Ctl)) (width k : ℕ) (scan : Scan)
     (shape : Shape) (tdi tdo mask : List Bool)
     → slice_get (test_scans board passes width) k ≡ Some scan →
@@ -68,7 +67,6 @@ fills board passes width k scan shape tdi tdo mask placed some most are is_ir co
       masked = rows_masked are;
     }
 
--- if rows have room for an instruction scan, they have room for the stored rows of an instruction scan
 pub codes_room : (board : RawBoard) (bits : List ScanBit) (stored : StoredRows) (rows : ScanRows)
     → IsSized bits (instruction_bits board) → AreRowsOf bits stored →
     EachHasRoom (IsRoom board) rows → HaveRoomFor stored rows
@@ -76,7 +74,6 @@ codes_room board bits stored rows s are each =
     room_for bits stored rows are
     (each_room (λ room is. omega (arith, s.size_is, is.instructions)) each)
 
--- a data scan has `data_bits board` bits, from 1 to the limit on the bits of a scan
 pub row_sized : (board : RawBoard) → IsBoard board → (scan : RowScan) → IsSized (joined (row_bits board scan)) (data_bits board)
 row_sized board rules scan =
     let size : length (joined (row_bits board scan)) ≡ data_bits board =
@@ -85,7 +82,6 @@ row_sized board rules scan =
     ∙ length-laid (λ part device cell. row_bit board scan.now part device cell) board in
     record { some = row_scan_some board rules scan; most = omega (arith, size, rules.data_most); size_is = size }
 
--- a data scan shifts in `data_bits board` bits
 pub shifted_size : (board : RawBoard) (scan : RowScan) → length (tdi_bits (joined (row_bits board scan))) ≡ data_bits board
 shifted_size board scan = ap length (tdi_laid board scan) ∙ length-laid (λ part device cell. row_bit board scan.now part device cell) board
 
@@ -101,7 +97,6 @@ marked_size board scan =
     ∙ length-laid (λ part device cell. is_some (expect_bit board scan.before part device cell))
     board
 
--- if the row before a scan is the quiet row, the scan compares nothing: its expected bits and its mask are zeros
 pub quiet_tdo : (board : RawBoard) (scan : RowScan) → scan.before ≡ quiet_row
     → replicate (data_bits board) false ≡ tdo_bits (joined (row_bits board scan))
 quiet_tdo board scan e =
@@ -140,7 +135,6 @@ module _ (board : RawBoard) (rules : IsBoard board) (plan : PlanTables) (p : IsP
   pub quiet_length : length plan.quiet.bits ≡ data_bits board
   quiet_length = ap (λ (l : List Bool). length l) quiet_laid ∙ length-laid (steady board (λ c. false)) board
 
-  -- if a scan shifts in the quiet row, the shifted bits are the plan's quiet row, whatever the scan compares
   pub quiet_is : (scan : RowScan) → scan.now ≡ quiet_row → plan.quiet.bits ≡ tdi_bits (joined (row_bits board scan))
   quiet_is scan e =
       p.tables.quiet ∙ tdi_laid board first_row_scan
@@ -157,7 +151,6 @@ module _ (board : RawBoard) (rules : IsBoard board) (plan : PlanTables) (p : IsP
   pub readers_within : All (λ cells. All (λ r. r.position < data_bits board) cells) plan.nets.readers
   readers_within = readers_below board rules plan.nets.readers readers_of p.tables.readers_length
 
-  -- the rows that all passes share have the length of a data scan
   pub steady_shifted_length : (j : ℕ) → length (steady_shifted plan j) ≡ data_bits board
   steady_shifted_length j =
       length-assigned (λ (d : DriverCell). d.position) (code_bit_of_driver plan.codes j)
@@ -216,7 +209,6 @@ module _ (board : RawBoard) (rules : IsBoard board) (plan : PlanTables) (p : IsP
         p.codes_are d.net s.net s.is_net ∙ ap (λ (b : Bool). cond b (code_of_net board plan.passes d.net) 0) observed in
         sym (ap (λ (n : ℕ). Some (code_bit n j)) code)
 
-    -- setting the pass's own bits in the shared row gives the bits that row `j` of the pass shifts in
     pub shifted_is : (j : ℕ) → j < plan.width →
         driven board plan (code_bit_of_driver plan.codes j)
         (assigned (λ h. h.position) (λ h. h.bit) (steady_shifted plan j) cells.held) pass
@@ -249,8 +241,6 @@ module _ (board : RawBoard) (rules : IsBoard board) (plan : PlanTables) (p : IsP
         (λ (row : TestRow). bits_of_parts
         (λ part device cell. row_bit board row part device cell) board) row)
 
-    -- Setting the pass's own bits in the shared row gives the compared bits of the pass. This row has the bit of each pair at the pair's
-    -- cell, and zeros elsewhere.
     compared_is : (bit : DriverCell → Bool) →
         with_compared_bits board plan bit (steady_compared plan bit) pass
         ≡ assigned (λ (x : Pair). x.1.position) (λ x. bit x.0)
@@ -286,7 +276,6 @@ module _ (board : RawBoard) (rules : IsBoard board) (plan : PlanTables) (p : IsP
         driver_only every (carries j) plan.nets.readers readers_of
         ∙ sym (mask_laid board (scan_of_pass board plan x (suc j)))
 
-    -- rows with the bits and the shape of scan `j` of the pass hold the scan, as `FillsScan` states
     pub fills_row : (j : ℕ) → j ≤ plan.width → (shape : Shape) (tdi tdo mask : List Bool) → shape.ir ≡ false →
         AreBitsOf (joined (row_bits board (scan_of_pass board plan x j))) tdi tdo mask → shape.compare ≡ list_any (λ bit. bit) mask →
         FillsScan board plan.passes plan.width (3 + (x * suc plan.width + j)) shape tdi tdo mask

@@ -15,7 +15,6 @@ use Rattle.plan_tables.specs.Plans.{IsPlanOf}
 use Rattle.scan_planner.specs.Plans.{FillsScan, scan_of_pass}
 use Rattle.scan_planner.proofs.FillLemmas.{mask_is}
 
--- if rows hold scan `j - 1` of a pass, and scans `j - 1` and `j` both compare a row, the mask in the rows is the mask of scan `j`
 pub mask_stands : (board : RawBoard) → IsBoard board → (plan : PlanTables) → IsPlanOf board plan
     → (x j : ℕ) → x < length plan.passes → 1 < j → j ≤ plan.width →
     (shape : Shape) (tdi tdo mask : List Bool) → FillsScan board plan.passes plan.width (2 + (x * suc plan.width + j)) shape tdi tdo mask →

@@ -2,8 +2,6 @@
 use Rattle.std.proofs.Common.{◌≡◌, ℕ, zero, suc, List, [], ◌∷◌, ◌++◌, length, Some, subst}
 use Rattle.std.specs.Prelude.{slice_get}
 
--- if each item of a list has the property of its place, and an item with the property of the next place is appended, each item of the
--- longer list has the property of its place
 pub each_more : {A : Type 0} (P : ℕ → A → Type 0) (xs : List A) (y : A)
     → ((i : ℕ) (x : A) → slice_get xs i ≡ Some x → P i x) → P (length xs) y → (i : ℕ) (x : A)
     → slice_get (xs ++ y ∷ []) i ≡ Some x → P i x

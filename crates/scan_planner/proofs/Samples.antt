@@ -1,5 +1,5 @@
--- Samples of the rows that all passes share, for a bus with two drivers and a receiver. The bus has one steady driver or none. The values
--- are worked by hand.
+-- Samples of the rows that all passes share, for a bus with two drivers and a receiver. The bus has one steady driver or none. The expected
+-- values are worked out by hand.
 use Rattle.std.proofs.Common.{◌≡◌, Bool, true, false, List, [], ◌∷◌, map, replicate, refl}
 use Rattle.bt_bits.specs.Rows.{BitRow}
 use Rattle.tap_defs.specs.declared.scan.StoredRows.{StoredRows}
@@ -14,7 +14,7 @@ row bits = record { bits = bits; room = 5 }
 abbrev no_rows : StoredRows
 no_rows = record { tdi = row []; tdo = row []; mask = row [] }
 
--- the quiet row, in which both drivers of the bus are off at 1
+-- the quiet row, in which the control cells of both drivers of the bus have the disable value 1
 abbrev quiet : List Bool
 quiet = false ∷ false ∷ true ∷ false ∷ true ∷ []
 

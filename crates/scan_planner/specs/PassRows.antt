@@ -1,4 +1,4 @@
--- The rows of a pass, kept side by side, and the rows that all passes share.
+-- The rows of a pass, stored side by side, and the rows that all passes share.
 use Rattle.std.specs.Prelude.{◌≡◌, ℕ, suc, ◌<◌, ◌≤◌, Bool, true, false, List, Some, length, replicate, slice_get, IfSome}
 use Rattle.bt_bits.specs.Rows.{BitRow}
 use Rattle.bt_bits.specs.Stacks.{Stack, stacked}
@@ -37,12 +37,12 @@ pub record KeepRoom (old new : StackedRows) : Type 0 where
 abbrev pub steady_shifted : PlanTables → ℕ → List Bool
 steady_shifted plan j = assigned (λ d. d.position) (code_bit_of_driver plan.codes j) plan.quiet.bits plan.steady
 
--- The row of compared bits that all passes share. It is zeros, with the bit of each steady driver at the cells on other pins that read the
--- driver's net.
+-- The compared bits that all passes share, as a row. A cell that reads the net of a steady driver on another pin has the driver's bit.
+-- Every other bit is 0.
 abbrev pub steady_compared : PlanTables → (DriverCell → Bool) → List Bool
 steady_compared plan bit = set_compared bit plan.nets.readers (replicate (length plan.quiet.bits) false) plan.steady
 
--- The rows, kept side by side, are the rows that all passes of the plan share: the bits that are shifted in, the expected bits, and the
+-- The rows are the rows that all passes of the plan share, stored side by side: the bits that are shifted in, the expected bits, and the
 -- mask.
 pub record AreCommonStacks (plan : PlanTables) (rows : StackedRows) : Type 0 where
   pub shifted : (j : ℕ) → j < 16 → stacked rows.shifted j ≡ steady_shifted plan j
@@ -53,8 +53,8 @@ pub record AreCommonStacks (plan : PlanTables) (rows : StackedRows) : Type 0 whe
 abbrev pub AreFirstRows : Stack → List BitRow → Type 0
 AreFirstRows stack rows = (j : ℕ) (row : BitRow) → slice_get rows j ≡ Some row → row.bits ≡ stacked stack j
 
--- The rows are the rows that all passes of the plan share. `expected` has one row for each bit of the codes, and its row `j` has the
--- expected bits of row `j`.
+-- The rows are the rows that all passes of the plan share. `expected` has one row for each bit of the codes. Row `j` of `expected` has the
+-- expected bits that all passes share in their row `j`.
 pub record AreCommonRows (plan : PlanTables) (rows : CommonRows) : Type 0 where
   pub stacked : AreCommonStacks plan rows.stacked
   pub count : length rows.expected ≡ plan.width
@@ -68,7 +68,7 @@ pub record ArePassRows (board : RawBoard) (plan : PlanTables) (x : ℕ) (rows : 
   pub expected : (j : ℕ) → j < plan.width → stacked rows.expected j ≡ tdo_bits (joined (row_bits board (scan_of_pass board plan x (suc j))))
   pub mask : (j : ℕ) → j < plan.width → rows.mask.bits ≡ mask_bits (joined (row_bits board (scan_of_pass board plan x (suc j))))
 
--- The kept rows have room for a data scan. If they belong to a pass, they are the rows of that pass of this plan.
+-- `kept` has room for a data scan. If its rows belong to a pass, they are the rows of that pass of this plan.
 pub record AreKept (board : RawBoard) (plan : PlanTables) (kept : PassRows) : Type 0 where
   pub room : HaveRoomOf (data_bits board) kept.rows
   pub rows : IfSome kept.pass (λ x. ArePassRows board plan x kept.rows)

@@ -1,4 +1,4 @@
--- A board with a plan, and a pass of the plan. These are the models that contracts use.
+-- A board with a plan, and a pass of the plan. In contracts, `BoardPlan` and `PassOfPlan` have these values.
 use Rattle.std.specs.Prelude.{ℕ, List}
 use Rattle.board_defs.specs.declared.board.RawBoard.{RawBoard}
 use Rattle.tap_defs.specs.declared.scan.ScanRows.{ScanRows}

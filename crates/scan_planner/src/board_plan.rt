@@ -12,7 +12,7 @@ use board_defs::Board;
 use plan_tables::PlanTables;
 use std::marker::Model;
 
-/// A board with a plan of it. Contracts see the board and the plan.
+/// A board with a plan of it. Its value in contracts is the board and the plan.
 #[derive(Drop)]
 pub struct BoardPlan<'a> {
     board: &'a Board,
@@ -30,7 +30,7 @@ impl<'a> Model for BoardPlan<'a> {
     ghost invariant = { λ a. IsPlanOf a.board.now a.plan.now };
 }
 
-/// A pass of a board's plan. Contracts see the board, the plan and the number of the pass.
+/// A pass of a board's plan. Its value in contracts is the board, the plan and the number of the pass.
 #[derive(Drop)]
 pub struct PassOfPlan<'a> {
     test: BoardPlan<'a>,
@@ -72,7 +72,7 @@ impl<'a> BoardPlan<'a> {
         self.plan
     }
 
-    /// Returns the same board with the same plan.
+    /// Returns another value with the same board and the same plan.
     pub fn again(&self) -> BoardPlan<'a>
         ensures { result ≡ self.now }
     {
@@ -113,7 +113,7 @@ impl<'a> BoardPlan<'a> {
     }
 
     /// Does nothing. The contract states the facts about a board with a plan: the board keeps the rules, the plan is a
-    /// plan of the board, the passes can be counted, and the rows of a pass fit in one stack.
+    /// plan of the board, there are fewer than 2^32 passes, and a pass has at most `most_rows` rows.
     pub(crate) fn laws(&self)
         ensures rules { IsBoard self.now.board }
         ensures plan { IsPlanOf self.now.board self.now.plan }
@@ -134,7 +134,7 @@ impl<'a> PassOfPlan<'a> {
         &self.test
     }
 
-    /// Returns the number of the pass, from 0.
+    /// Returns the number of the pass, counted from 0.
     pub fn number(&self) -> u32
         ensures value { result ≡ self.now.number }
         ensures within { result < length self.now.test.plan.passes }
@@ -156,8 +156,8 @@ impl<'a> PassOfPlan<'a> {
         self.test.plan().common()
     }
 
-    /// Does nothing. The contract states the facts about a pass: those of its board with the plan, and that the plan
-    /// has the pass.
+    /// Does nothing. The contract states the facts about a pass of a board's plan: the board keeps the rules, the plan
+    /// is a plan of the board, the plan has the pass, and the pass has at most `most_rows` rows.
     pub(crate) fn laws(&self)
         ensures rules { IsBoard self.now.test.board }
         ensures plan { IsPlanOf self.now.test.board self.now.test.plan }

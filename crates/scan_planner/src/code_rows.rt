@@ -27,11 +27,11 @@ pub trait CodeRows {
     // The bit of a column in the row with this number.
     ghost bit_in: { Self.Column → ℕ → Bool };
 
-    /// Returns the column with bit `j` of `number` in row `j`. Bit 0 is the lowest.
+    /// Returns the column that has bit `j` of `number` in row `j`. Bit 0 is the lowest bit.
     fn code(&self, number: u32) -> Self::Column
         ensures { (j : ℕ) → shows (kind self.now) j → bit_in result j ≡ code_bit number j };
 
-    /// Returns the column with this bit in every row.
+    /// Returns the column that has this bit in every row.
     fn same(&self, bit: bool) -> Self::Column
         ensures { (j : ℕ) → shows (kind self.now) j → bit_in result j ≡ bit };
 

@@ -1,4 +1,4 @@
-// The rows that all passes of a plan share. They are made once.
+// The rows that all passes of a plan share. A plan makes them once.
 ghost use Rattle.plan_tables.specs.Plans.{most_rows};
 ghost use Rattle.std.specs.Prelude.{◌≡◌, ◌<◌, ◌≤◌, Some, length, slice_get, IfOk};
 ghost use Rattle.scan_planner.specs.PassRows.{AreCommonRows, AreFirstRows};
@@ -20,7 +20,7 @@ pub struct CommonRows {
 }
 
 impl CommonRows {
-    /// Creates the rows that all passes of a plan share.
+    /// Creates the rows that all passes of a plan share. A pass must have at most `most_rows` rows.
     pub fn of(alloc: Global, tables: &PlanTables) -> Result<CommonRows, AllocError>
         requires { tables.now.width ≤ most_rows }
         ensures { IfOk result (AreCommonRows tables.now) }
@@ -30,7 +30,8 @@ impl CommonRows {
         Ok(CommonRows { stacked, expected })
     }
 
-    /// Returns the expected bits of row `j`, which must be below the number of rows of a pass.
+    /// Returns the expected bits of row `j`, as far as all passes share them. `j` must be below the number of rows of a
+    /// pass.
     pub fn expected_row(&self, j: u32) -> &Row
         requires { j < length self.now.expected }
         ensures { slice_get self.now.expected j ≡ Some result.now }
@@ -46,7 +47,7 @@ fn row_at(rows: &[Row], j: usize) -> &Row
     &rows[j]
 }
 
-// Returns the first `count` rows of a stack as separate rows.
+// Returns the first `count` rows of a stack as separate rows. `count` must be at most `most_rows`.
 fn first_rows(alloc: Global, stack: &RowStack, count: u32) -> Result<Items<Row>, AllocError>
     requires { count ≤ most_rows }
     ensures count { IfOk result (λ rows. length rows ≡ count) }

@@ -16,7 +16,7 @@ use crate::compared_rows::ComparedRows;
 use bt_bits::Row;
 use tap_defs::{ScanRows, Shape, StoredRows};
 
-// Fills the rows with a stored instruction scan.
+// Fills the rows with a stored instruction scan, and returns its shape. The rows must have room for this scan.
 fn fill_codes(codes: &StoredRows, rows: &mut ScanRows) -> Shape
     requires { HaveRoomFor codes.now rows.old }
     ensures bits { (bits : List ScanBit) → AreRowsOf bits codes.now → HoldBits bits rows.new }
@@ -32,7 +32,7 @@ fn fill_codes(codes: &StoredRows, rows: &mut ScanRows) -> Shape
 }
 
 impl<'a> BoardPlan<'a> {
-    /// Fills `tdi` with the quiet row.
+    /// Fills `tdi` with the quiet row. `tdi` must have room for a scan of data.
     pub fn shift_quiet(&self, tdi: &mut Row)
         requires { data_bits self.now.board ≤ tdi.old.room }
         ensures bits { (scan : RowScan) → scan.now ≡ quiet_row
@@ -44,7 +44,8 @@ impl<'a> BoardPlan<'a> {
         tdi.copy_row(&tables.quiet);
     }
 
-    /// Fills both rows with zeros. A scan after the quiet row compares nothing.
+    /// Fills both rows with zeros, since a scan after the quiet row compares nothing. Each row must have room for a
+    /// scan of data.
     pub fn compare_nothing(&self, rows: &mut ComparedRows)
         requires { BothHaveRoom (data_bits self.now.board) rows.old }
         ensures bits { (scan : RowScan) → scan.before ≡ quiet_row
@@ -57,7 +58,8 @@ impl<'a> BoardPlan<'a> {
         rows.mask.clear(len);
     }
 
-    // Fills the rows with the second scan, which shifts in the quiet row and compares nothing.
+    // Fills the rows with the second scan, which shifts in the quiet row and compares nothing. Returns its shape. Each
+    // row must have room for a scan of instructions and for a scan of data.
     fn fill_quiet(&self, rows: &mut ScanRows) -> Shape
         requires { EachHasRoom (IsRoom self.now.board) rows.old }
         ensures filled { FillsRows self.now 1 result rows.new }
@@ -75,8 +77,9 @@ impl<'a> BoardPlan<'a> {
         }
     }
 
-    // Fills the rows with scan `k`, which is one of the first three scans, and returns its shape. In turn, these scans shift in
-    // the preload codes, the quiet row, and the EXTEST codes.
+    // Fills the rows with scan `k`, which must be one of the first three scans, and returns its shape. These scans
+    // shift in the preload codes, the quiet row and the EXTEST codes, in this order. Each row must have room for a scan
+    // of instructions and for a scan of data.
     fn fill_early(&self, k: u64, rows: &mut ScanRows) -> Shape
         requires early { k < 3 }
         requires room { EachHasRoom (IsRoom self.now.board) rows.old }
@@ -145,7 +148,8 @@ impl<'a> PassOfPlan<'a> {
         self.compare_row(j, &mut ComparedRows { tdo, mask });
     }
 
-    // Fills the rows with the expected bits and the mask of row `j` of the pass.
+    // Fills the rows with the expected bits and the mask of row `j` of the pass. `j` must be below the number of rows
+    // of a pass, and each row must have room for a scan of data.
     fn compare_row(&self, j: u32, rows: &mut ComparedRows)
         requires row { j < self.now.test.plan.width }
         requires room { BothHaveRoom (data_bits self.now.test.board) rows.old }
@@ -167,7 +171,8 @@ impl<'a> PassOfPlan<'a> {
         self.walk(&mut NoRows, &mut expected, &mut marks);
     }
 
-    // Fills `tdi` with row `j` of the pass, or with the quiet row if the pass has no row `j`.
+    // Fills `tdi` with row `j` of the pass, or with the quiet row if the pass has no row `j`. `tdi` must have room for
+    // a scan of data.
     fn shift(&self, j: u32, tdi: &mut Row)
         requires { data_bits self.now.test.board ≤ tdi.old.room }
         ensures bits { tdi.new.bits ≡ tdi_bits (scan_bits_of self.now j) }
@@ -180,8 +185,9 @@ impl<'a> PassOfPlan<'a> {
         }
     }
 
-    // Fills the rows with the expected bits and the mask of row `j - 1`, or with zeros if `j` is 0. Returns whether
-    // any bit is compared.
+    // Fills the rows with the expected bits and the mask of row `j - 1`, or with zeros if `j` is 0. Returns whether any
+    // bit is compared. `j` must be at most the number of rows of a pass, and each row must have room for a scan of
+    // data.
     fn compare_before(&self, j: u32, rows: &mut ComparedRows) -> bool
         requires row { j ≤ self.now.test.plan.width }
         requires room { BothHaveRoom (data_bits self.now.test.board) rows.old }
@@ -198,7 +204,8 @@ impl<'a> PassOfPlan<'a> {
         }
     }
 
-    // Fills the rows with scan `j` of the pass, and returns its shape.
+    // Fills the rows with scan `j` of the pass, and returns its shape. `j` must be at most the number of rows of a
+    // pass. Each row must have room for a scan of instructions and for a scan of data.
     fn fill(&self, j: u32, rows: &mut ScanRows) -> Shape
         requires row { j ≤ self.now.test.plan.width }
         requires room { EachHasRoom (IsRoom self.now.test.board) rows.old }

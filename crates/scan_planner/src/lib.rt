@@ -1,8 +1,8 @@
 //! Makes the scans of a board's test one at a time, from tables that `plan_tables` makes. A plan also answers queries
 //! about each net and each position.
 //!
-//! A plan makes the rows that all passes share once. A walk over the cells of a pass then sets the pass's own bits in
-//! copies of these rows: in all rows side by side, or in one row.
+//! A plan makes the rows that all passes share only once. A walk over the cells of a pass then sets the pass's own bits
+//! in copies of these rows. It sets them in all rows side by side, or in a single row.
 #![tactic(auto)]
 
 mod board_plan;

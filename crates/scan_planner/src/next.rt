@@ -16,7 +16,7 @@ use bt_bits::Row;
 use std::marker::Model;
 use tap_defs::{ScanRows, Shape};
 
-// A pass with its rows, from which the scans of the pass are copied. Contracts see only the pass.
+// A pass with its rows, from which the scans of the pass are copied. Its value in contracts is only the pass.
 #[derive(Drop)]
 struct PassWithRows<'a, 'k> {
     pass: PassOfPlan<'a>,
@@ -36,7 +36,8 @@ impl<'a, 'k> Model for PassWithRows<'a, 'k> {
 }
 
 impl<'a, 'k> PassWithRows<'a, 'k> {
-    // Fills `tdi` with row `j` of the pass, or with the quiet row if the pass has no row `j`.
+    // Fills `tdi` with row `j` of the pass, or with the quiet row if the pass has no row `j`. `tdi` must have room for
+    // a scan of data.
     fn shift(&self, j: u32, tdi: &mut Row)
         requires { data_bits self.now.test.board ≤ tdi.old.room }
         ensures bits { tdi.new.bits ≡ tdi_bits (scan_bits_of self.now j) }
@@ -50,7 +51,8 @@ impl<'a, 'k> PassWithRows<'a, 'k> {
         }
     }
 
-    // Fills `tdo` with the expected bits of row `j` of the pass.
+    // Fills `tdo` with the expected bits of row `j`, which must be a row of the pass. `tdo` must have room for a scan
+    // of data.
     fn expect(&self, j: u32, tdo: &mut Row)
         requires row { j < self.now.test.plan.width }
         requires room { data_bits self.now.test.board ≤ tdo.old.room }
@@ -61,7 +63,7 @@ impl<'a, 'k> PassWithRows<'a, 'k> {
         tdo.copy_stacked(&self.rows.expected, j);
     }
 
-    // Fills `mask` with the mask of row `j` of the pass.
+    // Fills `mask` with the mask of row `j`, which must be a row of the pass. `mask` must have room for a scan of data.
     fn mark(&self, j: u32, mask: &mut Row)
         requires row { j < self.now.test.plan.width }
         requires room { data_bits self.now.test.board ≤ mask.old.room }
@@ -71,9 +73,10 @@ impl<'a, 'k> PassWithRows<'a, 'k> {
         mask.copy_row(&self.rows.mask);
     }
 
-    // Fills the rows with the expected bits and the mask of row `j - 1`, or with zeros if `j` is 0. Returns whether any bit is compared.
-    // All rows of a pass have the same mask. So if `j` is above 1, the call leaves the mask unchanged and returns `told`, which must say
-    // whether some bit of the mask is 1.
+    // Fills the rows with the expected bits and the mask of row `j - 1`, or with zeros if `j` is 0. Returns whether any
+    // bit is compared. All rows of a pass have the same mask. So if `j` is above 1, the call leaves the mask unchanged
+    // and returns `told`. In this case, `rows` must already have the mask, and `told` must say whether some bit of it
+    // is 1. `j` must be at most the number of rows of a pass, and each row must have room for a scan of data.
     fn compare_before(&self, j: u32, told: bool, rows: &mut ComparedRows) -> bool
         requires row { j ≤ self.now.test.plan.width }
         requires stands { 1 < j
@@ -96,8 +99,8 @@ impl<'a, 'k> PassWithRows<'a, 'k> {
         rows.mask.has_one()
     }
 
-    // Fills the rows with scan `j` of the pass, and returns its shape. The rows must hold the previous scan of the test, whose shape is
-    // `before`.
+    // Fills the rows with scan `j` of the pass, and returns its shape. The rows must hold the previous scan of the
+    // test, and `before` must be its shape. `j` must be at most the number of rows of a pass.
     fn fill(&self, j: u32, before: Shape, rows: &mut ScanRows) -> Shape
         requires row { j ≤ self.now.test.plan.width }
         requires before { FillsRows self.now.test
@@ -124,8 +127,10 @@ impl<'a, 'k> PassWithRows<'a, 'k> {
 }
 
 impl<'a> BoardPlan<'a> {
-    /// Fills the rows with scan `k + 1`, and returns its shape. The rows must hold scan `k`, whose shape is `before`. If scan `k + 1`
-    /// belongs to a pass, `kept` afterwards has the rows of that pass.
+    /// Fills the rows with scan `k + 1`, which must be a scan of the test, and returns its shape. The rows must hold
+    /// scan `k`, and `before` must be its shape. If scan `k + 1` belongs to a pass, `kept` has the rows of that pass
+    /// after the call. `kept` must have room for a scan of data. If `kept` already has rows of a pass, they must be
+    /// rows of this plan.
     pub fn fill_next(
         &self,
         k: u64,

@@ -16,7 +16,7 @@ use crate::questions::code_at;
 use board_defs::{Board, Setting};
 use plan_tables::{DriverCell, NetTables, PlanTables, ReaderCell, controlled, held_cell};
 
-/// Returns pass `x`, counted from 0.
+/// Returns pass `x`, counted from 0, which must be below the number of passes.
 pub fn pass_at(passes: &[Setting], x: usize) -> &Setting
     requires { x < length passes.now }
     ensures { result.now ≡ slice_index_or passes.now x [] }
@@ -97,7 +97,7 @@ pub fn drive_nets<S: CodeRows, E: CodeRows, M: CodeRows>(
 }
 
 impl PassControls<'_> {
-    // Writes the bits of the pass's controls at their cells.
+    // Writes, at the cell of each of the pass's controls, the bit that enables the control's drivers.
     fn hold<S: CodeRows>(&self, rows: &mut S)
         ensures kind { S.kind rows.new ≡ S.kind rows.old }
         ensures bits { (j : ℕ) → S.shows (S.kind rows.old) j
@@ -114,8 +114,9 @@ impl PassControls<'_> {
         }
     }
 
-    // Writes the codes of the nets that the pass's own drivers drive. These drivers are the drivers that are always on but not steady, and
-    // the drivers of the pass's controls.
+    // Writes the codes of the nets that the pass's own drivers drive. The pass's own drivers are the drivers that it
+    // enables, except the steady drivers. The steady drivers are the same in all passes, so their codes are already in
+    // the rows that all passes share.
     fn drive<S: CodeRows, E: CodeRows, M: CodeRows>(
         &self,
         shifted: &mut S,

@@ -1,4 +1,4 @@
-// The rows of one pass, which are made once and kept side by side. Each scan of the pass is copied from these rows.
+// The rows of one pass, which are made once and stored side by side. Each scan of the pass is copied from these rows.
 ghost use Rattle.std.specs.Prelude.{◌≡◌, ◌<◌, ◌≤◌, ℕ, length, IfOk};
 ghost use Rattle.board_defs.specs.declared.board.RawBoard.{RawBoard};
 ghost use Rattle.board_defs.specs.Pins.{data_bits};
@@ -45,7 +45,7 @@ impl StackedRows {
         Ok(rows)
     }
 
-    // Fills the rows with the rows that all passes of a plan share. There must be room for these.
+    // Fills the rows with the rows that all passes of a plan share. There must be room for a scan of data.
     fn fill_common(&mut self, tables: &PlanTables)
         requires { HaveRoomOf (length tables.now.quiet.bits) self.old }
         ensures { AreCommonStacks tables.now self.new }
@@ -83,7 +83,8 @@ impl StackedRows {
     }
 }
 
-/// The rows of one pass, which are kept from call to call. If a call needs another pass, the rows of that pass replace them.
+/// The rows of one pass, which a caller keeps from one call to the next. If a call needs another pass, the rows of that
+/// pass replace them.
 #[derive(Drop)]
 pub struct PassRows {
     // The number of the pass, counted from 0, or `None` before the first pass.
@@ -106,7 +107,8 @@ impl PassRows {
 }
 
 impl<'a> PassOfPlan<'a> {
-    // Fills the rows with the rows of the pass, starting from a copy of the rows that all passes share.
+    // Fills the rows with the rows of the pass, starting from a copy of the rows that all passes share. The rows must
+    // have room for a scan of data.
     fn fill_rows(&self, rows: &mut StackedRows)
         requires { HaveRoomOf (data_bits self.now.test.board) rows.old }
         ensures rows { ArePassRows self.now.test.board self.now.test.plan self.now.number rows.new }
@@ -121,7 +123,8 @@ impl<'a> PassOfPlan<'a> {
         self.walk(&mut rows.shifted, &mut rows.expected, &mut marks);
     }
 
-    /// Fills the kept rows with the rows of the pass, unless they already belong to this pass.
+    /// Fills `kept` with the rows of the pass, unless it already has them. `kept` must have room for a scan of data. If
+    /// it already has rows of a pass, they must be rows of this plan.
     pub fn keep_rows(&self, kept: &mut PassRows)
         requires { AreKept self.now.test.board self.now.test.plan kept.old }
         ensures kept { AreKept self.now.test.board self.now.test.plan kept.new }

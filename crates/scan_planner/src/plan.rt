@@ -1,4 +1,4 @@
-// A plan: how it is made, the number of its scans and rows, and the calls that fill rows with its scans.
+// The type `Plan`, which makes a plan, counts its scans and rows, and fills rows with a scan.
 ghost use Rattle.std.specs.Prelude.{◌≡◌, ◌*◌, ◌<◌, ◌^◌, length, IfOk};
 ghost use Rattle.net_pins.specs.Tables.{AreNetPins};
 ghost use Rattle.plan_tables.specs.Plans.{ArePlannable, IsPlanOf};
@@ -39,9 +39,9 @@ impl Model for Plan {
 }
 
 impl Plan {
-    /// Makes the plan of these passes. Each pass must be safe, and each of its controls must control a driver of the board. The
-    /// nets that some pass observes are numbered from 1 in net order, and these numbers are their codes. Like `of`, but collects
-    /// the pins of the board's nets itself.
+    /// Makes the plan of these passes. There must be fewer than 2^32 passes. Each pass must be safe, and each of its
+    /// controls must control a driver of the board. The nets that some pass observes are numbered from 1 in net order,
+    /// and these numbers are their codes. Like `of`, but collects the pins of the board's nets itself.
     pub fn new(alloc: Global, board: &Board, passes: Vec<Setting>) -> Result<Plan, AllocError>
         requires few { length passes.items < 2 ^ 32 }
         requires plannable { ArePlannable board.now passes.items }
