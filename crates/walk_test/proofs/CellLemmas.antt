@@ -112,7 +112,6 @@ module _ (board : RawBoard) (rules : IsBoard board) (walk : List Ctl) (n : ℕ) 
   unfolding compared_of
   compared_position = q.position_is
 
--- `laid_parts` and `parts_laid` give the bits of all parts in the same order
 parts_same : (f : CellBits) (k : ℕ) (ps : List Part) → laid_parts f false k ps ≡ parts_laid f k ps
 parts_same f k [] = refl
 parts_same f k (p ∷ ps) = cons_path (one p.kind) (parts_same f (suc k) ps)
@@ -191,7 +190,6 @@ is_shorted faults k n (x ∷ nets) (suc place) net m e z s =
     by_test rest true = inr rest
     by_test rest false = rest
 
--- if at least one bit is fed, the bit of an Or short is the Or of the fed bits
 or_of : (fs hs : List (OfNet Bool)) (x : OfNet Bool) (free : Bool) → Has fs x → first_combined Or fs hs free ≡ list_any (λ b. b.1) fs
 or_of [] hs x free h = absurd h
 or_of (f ∷ fs) hs x free h = refl
@@ -228,8 +226,7 @@ module _ (board : RawBoard) (rules : IsBoard board) (walk : List Ctl) (setting :
   abbrev places : BoardRules board
   places = board_rules board rules
 
-  -- if the setting holds a driver's control, the control cell is not the driver's own cell, since a driver that its own cell controls is a
-  -- switching driver
+  -- A driver whose own cell is its control cell is a switching driver, and the setting holds no control of a switching driver.
   not_own : (n : ℕ) (net : Net) (d : ℕ) (pin : NetPin) (at : PinAt) (entry : Cell)
       → slice_get board.nets n ≡ Some net → slice_get net.pins d ≡ Some pin → pin.at ≡ Some at →
       entry_at board at ≡ Some entry → (control : Control) → entry.ctl ≡ Some control

@@ -1,4 +1,4 @@
--- Lemmas about rows as values of their digits: about the compared bits of a row, and about the marks at positions.
+-- Lemmas about rows as the values of their digits: the compared bits of a row, and the marks that a loop makes.
 use Rattle.std.proofs.Common.{◌≡◌, ◌⊎◌, inl, inr, ℕ, ◌+◌, ◌<◌, ◌≤◌, ◌==◌, Bool, true, false, ◌&&◌, List, length, get_or, min, refl, sym, ap, ◌∙◌, subst, arith}
 use Rattle.std.specs.Int.{bit_at}
 use Rattle.std.specs.Int.Bits.{bit_and, bit_or}
@@ -8,7 +8,6 @@ use Rattle.std.proofs.lemmas.Nat.Bits.{bit_at-zero, bit_at_and}
 use Rattle.bt_bits.specs.Digits.{digit_bit}
 use Rattle.walk_test.specs.inner.Digits.{is_one, IsFresh, IsMarked}
 
--- if a digit has no compared 1, none of its bits is both compared and 1
 pub clear_bit : (x m k : ℕ) → bit_and x m ≡ 0 → (digit_bit m k && digit_bit x k) ≡ false
 clear_bit x m k none = by_test (bit_at m k == 1) (bit_at x k == 1) refl refl
   where
@@ -23,8 +22,6 @@ clear_bit x m k none = by_test (bit_at m k == 1) (bit_at x k == 1) refl refl
     by_test true false e f = refl
     by_test false c e f = refl
 
--- Let `union` be 0 only if f is 0 for each number from `from` to k - 1. If the bitwise or of `union` and `f k` is 0, f is 0 for each number
--- from `from` to k.
 pub zeros_more : (f : ℕ → ℕ) (from union k : ℕ) → (union ≡ 0 → (i : ℕ) → from ≤ i → i < k → f i ≡ 0)
     → bit_or union (f k) ≡ 0 → (i : ℕ) → from ≤ i → i < k + 1 → f i ≡ 0
 zeros_more f from union k zeros none i low less = by_side (cases_lt i k)
@@ -46,7 +43,6 @@ union_more f union k zeros all =
 -- A loop step handles position `at` and skips to `next`. No position between the two is compared and reads 1.
 module _ (row mask : List ℕ) (j none : ℕ) (old : List ℕ) (at next : ℕ) (past : at < next)
     (gap : (p : ℕ) → at < p → p < next → is_one row mask p ≡ false) where
-  -- P holds for each position if it holds for the positions before `at`, for `at`, and for the positions behind `at`
   by_place : (P : ℕ → Type 0) (p : ℕ) → (p < at → P p) → P at → (at < p → P p) → P p
   by_place P p before here behind = by_side (cases_lt p at) (cases_lt at p)
     where

@@ -1,5 +1,5 @@
--- Lemmas which say when a set of groups explains a log: if and only if, in each row, each compared cell of a walk net reads 1 if its net is
--- joined with the net that carries 1, and otherwise 0.
+-- Lemmas about when a set of groups explains a log. In each row, a compared cell must read 1 if its net is joined with the net that carries
+-- 1, and otherwise 0.
 use Rattle.std.proofs.Common.{◌≡◌, ◌≢◌, ◌⊎◌, inl, inr, ℕ, zero, suc, ◌+◌, ◌*◌, ◌<◌, ◌≤◌, ◌==◌, Bool, true, false, List, [], ◌∷◌, length, take, get_or, Option, Some, None, is_some, refl, sym, ◌∙◌, ap, subst, arith}
 use Rattle.std.specs.Prelude.{◌↔◌, slice_get, count_by, All, Contains}
 use Rattle.std.proofs.lemmas.Bool.{cases_eq}
@@ -35,7 +35,6 @@ use Rattle.walk_test.proofs.CellLemmas.{IsWalkSetting, WalkedBy, compared_of, ca
 use Rattle.walk_test.proofs.NetLemmas.{walk_has, count_is, marked_is, no_nets}
 use Rattle.walk_test.proofs.RowLemmas.{CellsOf, ComparedAt, compared_at, laid_here, mask_here}
 
--- the walk nets are covered
 walked_covered : (board : RawBoard) (walk : List Ctl) (n : ℕ) → IsSafe board (holds walk) → WalkedBy board walk n → IsCovered board n
 walked_covered board walk n safe w = (
   holds walk,
@@ -43,7 +42,6 @@ walked_covered board walk n safe w = (
   (w.net, w.is_net, (w.driver, observed_by board (holds walk) w.net w.driver w.observing)),
 )
 
--- the nets of groups are walk nets
 pub group_nets : (board : RawBoard) (groups : List (List ℕ)) → AreGroups board groups → (n k : ℕ)
     → group_of groups n ≡ Some k → Contains (walk_nets board) n
 group_nets board groups are n k e =
@@ -52,7 +50,6 @@ group_nets board groups are n k e =
     (has_from_all (λ (group : List ℕ). All (λ m. Contains (walk_nets board) m) group) groups g.group
     are.walked (has_at groups g.index g.group g.stands)) g.member
 
--- a group of two or more nets has a net other than `n`
 pub another : (group : List ℕ) (n : ℕ) → 2 ≤ length group → Rises group → (m : ℕ) × Has group m × (m ≢ n)
 another [] n some rise = absurd (omega (arith, some))
 another (x ∷ []) n some rise = absurd (omega (arith, some))
@@ -77,7 +74,6 @@ faults_of board groups ordered covered = record {
   dominant = λ n k d e f. cc f;
 }
 
--- if the walk setting is safe, the shorts of groups are faults of the board
 pub shorts_are_faults : (board : RawBoard) (groups : List (List ℕ))
     → ((walk : List Ctl) → walk_setting board ≡ Some walk → IsSafe board (holds walk))
     → AreGroups board groups → IsFaultSet board (or_shorts groups)
@@ -91,7 +87,6 @@ shorts_are_faults board groups safe are = by_setting (walk_setting board) refl
         faults_of board groups (groups_ordered board groups are)
         (λ n k g. walked_covered board walk n (safe walk e) (walk_has board walk e n (group_nets board groups are n k g)))
 
--- if a scan's mask has a 1 at position i, the bit of the scan at this position has an expected value
 mask_bit : (bits : List ScanBit) (i : ℕ) → get_or (mask_bits bits) i false ≡ true
     → (b : ScanBit) × (v : Bool) × (slice_get bits i ≡ Some b) × (b.expect ≡ Some v)
 mask_bit [] i e = cc e
@@ -111,7 +106,6 @@ bit_mask (a ∷ bits) zero b v e q =
     ap (λ (x : ScanBit). is_some x.expect) same ∙ ap (λ (o : Option Bool). is_some o) q
 bit_mask (a ∷ bits) (suc i) b v e q = bit_mask bits i b v e q
 
--- the compared positions of a scan do not depend on the row that the scan shifts in
 mask_any : (board : RawBoard) (scan : RowScan) → mask_bits (joined (row_bits board scan)) ≡ mask_of board scan.before
 mask_any board scan = mask_laid board scan ∙ sym (mask_laid board (record { now = quiet_row; before = scan.before }))
 
@@ -268,7 +262,6 @@ module _ (board : RawBoard) (rules : IsBoard board) (walk : List Ctl)
           (row_captured board faults (walk_row board walk x) choice)
           (λ i b u y eb eu ey. each i b u y eb eu ey b.expect refl))
 
-  -- a log with a row of `data_bits` bits for each walk net has the shape that the scans need
   pub shaped : (log : List (List Bool)) → length log ≡ length (walk_nets board)
       → All (λ row. length row ≡ data_bits board) log → HasShape board scans log
   shaped log rows bits = record { rows = rows ∙ count_is board walk is ∙ sym rows_are ∙ sym (rows_counted board scans); bits = bits }

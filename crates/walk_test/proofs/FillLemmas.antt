@@ -49,7 +49,6 @@ use Rattle.walk_test.proofs.CellLemmas.{WalkedBy}
 use Rattle.walk_test.proofs.NetLemmas.{walk_at, place_of_walk, count_is, marked_is, no_nets}
 use Rattle.walk_test.proofs.RowLemmas.{CellsOf, cells_of_plan, one_driver, length-tdi, marked_row, cleared_row, mask_same, one_at, tdo_here, laid_here, net_cells}
 
--- the codes of a plan have at least one bit
 pub some_width : (board : RawBoard) (plan : PlanTables) → IsPlanOf board plan → 1 ≤ plan.width
 some_width board plan p = by_width plan.width p.width_is
   where
@@ -62,8 +61,6 @@ some_width board plan p = by_width plan.width p.width_is
         absurd (omega (arith, enough, none))
     by_width (suc w) e = omega arith
 
--- if the list `settings` has only the value of an option, or is empty if the option is `None`, then the option is the result of looking up
--- the first item of the list
 pub first_setting : {X : Type 0} (settings : List X) (o : Option X) → settings ≡ option_to_list o → slice_get settings 0 ≡ o
 first_setting settings o are = ap (λ l. slice_get l 0) are ∙ by_setting o
   where
@@ -107,7 +104,6 @@ module _ (board : RawBoard) (rules : IsBoard board) (pins : NetPins) (p : AreNet
       by_observer None h = sym (ap (λ (x : Option ℕ). is_some x) h)
       by_observer (Some d) h = sym (ap (λ (x : Option ℕ). is_some x) h.0)
 
-  -- the nets that the setting observes are the walk nets
   pub nets_are : walk_setting board ≡ Some walk → nets_in pins walk (length board.nets) ≡ walk_nets board
   nets_are is = same 0 board.nets (λ i net e. let z : 0 + i ≡ i = omega arith in ap (λ (k : ℕ). slice_get board.nets k) z ∙ e)
     where
@@ -141,7 +137,6 @@ module _ (board : RawBoard) (rules : IsBoard board) (pins : NetPins) (p : AreNet
           (λ i x f. let y : k + 1 + i ≡ k + suc i = omega arith in
           ap (λ (j : ℕ). slice_get board.nets j) y ∙ at (suc i) x f))
 
-  -- `cells_in` finds the cells of a walk net
   pub cells_are : (n : ℕ) → WalkedBy board walk n → AreNetCells board walk n (cells_in pins walk n)
   cells_are n w = by_observer (observer_on pins.nets (holds walk) n) (observer_is n w.net w.is_net)
     where
@@ -237,7 +232,6 @@ module _ (board : RawBoard) (rules : IsBoard board) (plan : PlanTables) (p : IsP
     walk_cells : CellsOf board walk
     walk_cells = cells_of_plan board plan walk p one_pass
 
-    -- the net at place `i` is a walk net, and the cells at place `i` are the cells of this net
     at_place : (i n : ℕ) → slice_get t.nets i ≡ Some n → WalkedBy board walk n
     at_place i n e = (walk_at board walk is i n (sym (ap (λ (l : List ℕ). slice_get l i) walk_nets_are) ∙ e)).by
 
@@ -310,7 +304,6 @@ module _ (board : RawBoard) (rules : IsBoard board) (plan : PlanTables) (p : IsP
             subst (λ (w : List Ctl). AreWalkTables board w t) same (tables_are walk e);
       }
 
--- the first three scans do not depend on the rows of the test
 early_same : (board : RawBoard) (ts us : List RowScan) (k : ℕ) → k < 3
     → slice_get (board_scans board ts) k ≡ slice_get (board_scans board us) k
 early_same board ts us zero less = refl
@@ -318,7 +311,6 @@ early_same board ts us (suc zero) less = refl
 early_same board ts us (suc (suc zero)) less = refl
 early_same board ts us (suc (suc (suc k))) less = absurd (omega (arith, less))
 
--- if rows are one of the first three scans of a plan's test, they are also the scan with this number of the walking test
 pub early_filled : (board : RawBoard) (passes : List (List Ctl)) (width k : ℕ) (shape : Shape)
     (tdi tdo mask : List Bool) → k < 3 → FillsScan board passes width k shape tdi tdo mask
     → FillsWalk board k shape tdi tdo mask
@@ -365,7 +357,6 @@ module _ (board : RawBoard) (rules : IsBoard board) (t : WalkTables) (w : IsWalk
           ∙ ap (λ (i : ℕ). set (tdi_of board (still_row walk)) i true) a.driver_is
           ∙ marked_row board rules walk cells (marks j) a.driver a.is_driver driver_marked (λ m x on. only_marked m x on ∙ sym a.of_net)
 
-      -- each compared cell of the net that carries 1 should read 1, and the position of this cell is within a data scan
       reader_in : (position : ℕ) → Has c.compared position
           → (get_or (tdo_of board (walk_row board walk j)) position false ≡ true)
           × (position < data_bits board)
@@ -461,7 +452,6 @@ module _ (board : RawBoard) (rules : IsBoard board) (t : WalkTables) (w : IsWalk
     pub length-still : length t.rows.still.bits ≡ data_bits board
     length-still = ap (λ (l : List Bool). length l) tables.still ∙ length-tdi board rules walk cells (still_row walk)
 
-  -- a board whose plan has a pass has a walk setting
   pub setting_there : 0 < length t.plan.passes → (walk : List Ctl) × (walk_setting board ≡ Some walk)
   setting_there some = by_setting (walk_setting board) refl
     where
@@ -587,7 +577,6 @@ module _ (board : RawBoard) (rules : IsBoard board) (t : WalkTables) (w : IsWalk
       ap (λ (r : TestRow). list_any (λ bit. bit) (mask_of board r)) row_of_walk
       ∙ some_masked board rules t w walk is j (get_or t.nets j 0) net_is c at
 
--- if a walk's plan has a pass, the walk has cells for as many nets as it has walk nets
 pub cells_count : (board : RawBoard) (rules : IsBoard board) (t : WalkTables) (w : IsWalkOf board t)
     → 0 < length t.plan.passes → length t.cells ≡ length t.nets
 cells_count board rules t w some = let s = setting_there board rules t w some in (w.tables s.0 s.1).count
@@ -606,15 +595,12 @@ pub still_length : (board : RawBoard) (rules : IsBoard board) (t : WalkTables)
     (w : IsWalkOf board t) → 0 < length t.plan.passes → length t.rows.still.bits ≡ data_bits board
 still_length board rules t w some = let s = setting_there board rules t w some in length-still board rules t w s.0 s.1
 
--- for the quiet row, the next scan expects no bit
 pub first_tdo : (board : RawBoard) → replicate (data_bits board) false ≡ tdo_of board quiet_row
 first_tdo board = quiet_tdo board (record { now = quiet_row; before = quiet_row }) refl
 
--- for the quiet row, the next scan compares no bit
 pub first_mask : (board : RawBoard) → replicate (data_bits board) false ≡ mask_of board quiet_row
 first_mask board = quiet_mask board (record { now = quiet_row; before = quiet_row }) refl
 
--- scan j compares something if and only if j is not 0
 pub compare_is : (board : RawBoard) (rules : IsBoard board) (t : WalkTables) (w : IsWalkOf board t)
     → 0 < length t.plan.passes → (j : ℕ) → j ≤ length t.nets → (mask : List Bool)
     → mask ≡ mask_of board (before_of board j) → nat_lt 0 j ≡ list_any (λ bit. bit) mask
@@ -626,7 +612,6 @@ compare_is board rules t w some (suc j) le mask is =
     let less : nat_lt 0 (suc j) ≡ true = lt-ltb 0 (suc j) (omega arith) in
     less ∙ sym (ap (λ (l : List Bool). list_any (λ bit. bit) l) is ∙ row_has_one board rules t w some j (omega (arith, le)) c.0 c.1)
 
--- if the number of a scan of a walk is at least 3, the walk's plan has a pass, and the number is at most 3 plus the number of walk nets
 pub past_codes : (t : WalkTables) (k : ℕ) → 3 ≤ k → k < Rattle.walk_test.specs.Tables.count_walk_scans t
     → (0 < length t.plan.passes) × (k ≤ 3 + length t.nets)
 past_codes t k past less = by_passes t.plan.passes less
@@ -637,7 +622,6 @@ past_codes t k past less = by_passes t.plan.passes less
     by_passes [] h = absurd (omega (arith, past, h))
     by_passes (pass ∷ passes) h = (omega arith, omega (arith, h))
 
--- a board does not have more walk nets than nets
 pub nets_few : (board : RawBoard) → length (walk_nets board) ≤ length board.nets
 nets_few board = at_most (λ n. is_walk_net board (walk_setting board) (slice_get board.nets n)) 0 (length board.nets)
   where

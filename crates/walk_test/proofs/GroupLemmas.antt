@@ -1,5 +1,4 @@
--- Lemmas about lists of groups. Two lists of groups are equal if any two nets that are in one group of either list are also in one group of
--- the other list.
+-- Lemmas about lists of groups. Two lists of groups are equal if they put the same nets together.
 use Rattle.std.proofs.Common.{◌≡◌, ◌⊎◌, inl, inr, ℕ, zero, suc, ◌+◌, ◌<◌, ◌≤◌, ◌==◌, Bool, true, false, cond, List, [], ◌∷◌, length, Option, Some, None, refl, sym, ◌∙◌, ap, subst, arith}
 use Rattle.std.specs.Prelude.{slice_get, Contains}
 use Rattle.std.specs.List.{list_any}
@@ -15,12 +14,10 @@ use Rattle.walk_test.specs.inner.Reading.{is_one_group, are_joined}
 abbrev pub Rises : List ℕ → Type 0
 Rises xs = InOrder (λ a b. a < b) xs
 
--- the first number of an ascending list is the lowest
 le_first : (x : ℕ) (xs : List ℕ) (y : ℕ) → Rises (x ∷ xs) → Has (x ∷ xs) y → x ≤ y
 le_first x xs y rise (inl e) = omega (arith, e)
 le_first x xs y rise (inr has) = omega (arith, rise.0 y has)
 
--- two ascending lists with the same numbers are equal
 rising_same : (xs ys : List ℕ) → Rises xs → Rises ys → ((x : ℕ) → Has xs x → Has ys x) → ((x : ℕ) → Has ys x → Has xs x) → xs ≡ ys
 rising_same [] [] p q to from = refl
 rising_same [] (y ∷ ys) p q to from = absurd (from y (inl refl))
@@ -93,7 +90,6 @@ groups_ordered board groups are = record {
 abbrev pub Together : List (List ℕ) → ℕ → ℕ → Type 0
 Together groups a b = (group : List ℕ) × Has groups group × Has group a × Has group b
 
--- a net of the first group is in no later group
 first_only : (group : List ℕ) (groups : List (List ℕ)) (other : List ℕ) (n : ℕ)
     → AreOrdered (group ∷ groups) → Has group n → Has (group ∷ groups) other → Has other n
     → group ≡ other
@@ -130,7 +126,6 @@ module _ (g : List ℕ) (gs : List (List ℕ)) (h : List ℕ) (hs : List (List �
       by_place (l, inl first, la, lb) = absurd (p.apart.0 k has a (subst (λ (s : List ℕ). Has s a) (sym (same ∙ first)) la) in_a)
       by_place (l, inr later, la, lb) = (l, later, la, lb)
 
--- if any two nets that are in one group of either list are also in one group of the other list, the lists are equal
 pub one_list : (groups others : List (List ℕ)) → AreOrdered groups → AreOrdered others
     → ((a b : ℕ) → Together groups a b → Together others a b)
     → ((a b : ℕ) → Together others a b → Together groups a b) → groups ≡ others
@@ -150,11 +145,9 @@ one_list (g ∷ gs) (h ∷ hs) p q to from =
     (one_list gs hs (tail_ordered g gs p) (tail_ordered h hs q)
     (rest_within g gs h hs p q to same) (rest_within h hs g gs q p from (sym same)))
 
--- if a group has net `n`, comparing the group's nets with `n` finds an equal net
 any_in : (group : List ℕ) (n : ℕ) → Has group n → list_any (λ m. m == n) group ≡ true
 any_in group n has = has_any (λ m. m == n) group n has (eq-eqb n n refl)
 
--- if comparing a group's nets with `n` finds an equal net, the group has net `n`
 in_any : (group : List ℕ) (n : ℕ) → list_any (λ m. m == n) group ≡ true → Has group n
 in_any group n e = let r = any_has (λ m. m == n) group e in subst (λ (m : ℕ). Has group m) (eqb-true r.0 n r.2) r.1
 
@@ -214,7 +207,6 @@ group_is k (first ∷ groups) (suc index) group n apart e has =
         let z : suc k + index ≡ k + suc index = omega arith in
         later ∙ ap (λ (m : ℕ). Some m) z
 
--- if two nets have the same group number, some group has both nets
 pub together_of : (groups : List (List ℕ)) (a b : ℕ) → is_one_group (group_of groups a) (group_of groups b) ≡ true → Together groups a b
 together_of groups a b e = by_first (group_of groups a) refl e
   where
@@ -245,7 +237,6 @@ one_group groups a b apart (group, has, in_a, in_b) =
     ∙ ap (λ (o : Option ℕ). is_one_group (Some (0 + at.0)) o) (group_is 0 groups at.0 group b apart at.1 in_b)
     ∙ eq-eqb (0 + at.0) (0 + at.0) refl
 
--- if two nets are joined, they are equal or in one group
 pub joined_cases : (groups : List (List ℕ)) (a b : ℕ) → are_joined groups a b ≡ true → (a ≡ b) ⊎ Together groups a b
 joined_cases groups a b e = by_case (or_cases (a == b) (is_one_group (group_of groups a) (group_of groups b)) e)
   where
@@ -267,7 +258,6 @@ module _ (groups : List (List ℕ)) (ordered : AreOrdered groups) where
       by_case (inl same) = joined_self groups b a (sym same)
       by_case (inr (group, has, in_a, in_b)) = joined_in b a (group, has, in_b, in_a)
 
-  -- if two groups have the same net, they are the same group
   pub one_of : (group other : List ℕ) (n : ℕ) → Has groups group → Has groups other → Has group n → Has other n → group ≡ other
   one_of group other n has also in_one in_other =
       let p = has_place groups group has in
@@ -290,7 +280,6 @@ module _ (groups : List (List ℕ)) (ordered : AreOrdered groups) where
           let one : g ≡ h = one_of g h b has also in_b of_b in
           joined_in a c (g, has, in_a, subst (λ (l : List ℕ). Has l c) (sym one) of_c)
 
-  -- if nets `a` and `b` are joined, `a` is joined with net `c` if and only if `b` is
   pub joined_same : (a b c : ℕ) → are_joined groups a b ≡ true → are_joined groups a c ≡ are_joined groups b c
   joined_same a b c e =
       same_answer (are_joined groups a c) (are_joined groups b c)

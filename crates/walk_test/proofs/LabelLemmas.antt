@@ -22,7 +22,6 @@ use Rattle.walk_test.specs.Groups.{Rise, least_of, AreGroups}
 use Rattle.walk_test.specs.inner.Reading.{are_joined, first_one, label_of, net_shows, ShowsLabelsIn, ShowsLabels, members, group_at, groups_by}
 use Rattle.walk_test.proofs.GroupLemmas.{Rises, least_has, least_le, Before, AreOrdered, Together, joined_cases, joined_self, joined_in}
 
--- if row `j` reads 1 at a position, the first row that reads 1 there is row `j` or an earlier row
 pub first_low : (log : List (List Bool)) (at j : ℕ) → bit_in log j at ≡ true → first_one log at ≤ j
 first_low [] at j e = cc e
 first_low (row ∷ log) at zero e =
@@ -45,7 +44,6 @@ first_holds (row ∷ log) at less = by_test (get_or row at false) refl (first_ho
     by_test true e rest h = e
     by_test false e rest h = rest (omega (arith, h))
 
--- if two positions read the same bits in all rows, they have the same first row
 pub first_same : (log : List (List Bool)) (p q : ℕ)
     → ((j : ℕ) → j < length log → bit_in log j p ≡ bit_in log j q)
     → first_one log p ≡ first_one log q
@@ -54,7 +52,6 @@ first_same (row ∷ log) p q same =
     let rest : first_one log p ≡ first_one log q = first_same log p q (λ j less. same (suc j) (omega (arith, less))) in
     ap (λ (b : Bool). cond b 0 (suc (first_one log p))) (same 0 (omega arith)) ∙ ap (λ (k : ℕ). cond (get_or row q false) 0 (suc k)) rest
 
--- if row `i` reads 1 at a position, and no earlier row does, row `i` is the first row of the position
 pub first_here : (log : List (List Bool)) (at i : ℕ) → i < length log → bit_in log i at ≡ true
     → ((j : ℕ) → j < i → bit_in log j at ≡ false) → first_one log at ≡ i
 first_here log at i less on off = by_side (cases_lt (first_one log at) i)
@@ -76,7 +73,6 @@ first_none (row ∷ log) at off =
     let rest : first_one log at ≡ length log = first_none log at (λ j less. off (suc j) (omega (arith, less))) in
     ap (λ (b : Bool). cond b 0 (suc (first_one log at))) (off 0 (omega arith)) ∙ ap (λ (k : ℕ). suc k) rest
 
--- the label at place `i` is the label of the net whose cells are at place `i`
 pub label_is : (log : List (List Bool)) (cells : List NetCells) (i : ℕ) (c : NetCells)
     → slice_get cells i ≡ Some c → slice_get (map (label_of log) cells) i ≡ Some (label_of log c)
 label_is log cells i c e = slice_get-map (label_of log) cells i ∙ ap (λ (o : Option NetCells). option_map (label_of log) o) e
@@ -84,13 +80,14 @@ label_is log cells i c e = slice_get-map (label_of log) cells i ∙ ap (λ (o : 
 pub first_compared : (c : NetCells) → 0 < length c.compared → Has c.compared (get_or c.compared 0 0)
 first_compared c some = has_at c.compared 0 (get_or c.compared 0 0) (slice_get-get_or c.compared 0 0 some)
 
--- A log with at least one row for each net. Each net has a compared cell.
+-- a log with at least one row for each net; each net has a compared cell
 module _ (log : List (List Bool)) (cells : List NetCells) (long : length cells ≤ length log)
     (some : (i : ℕ) (c : NetCells) → slice_get cells i ≡ Some c → 0 < length c.compared) where
   abbrev log_labels : List ℕ
   log_labels = map (label_of log) cells
 
-  -- in each row, each compared cell reads 1 if and only if its net has the same label as the net of the row; this is the same as `ShowsLabels`
+  -- In each row, each compared cell reads 1 if and only if its net has the same label as the net of the row. This is the same as
+  -- `ShowsLabels`.
   abbrev EachShows : Type 0
   EachShows =
       (j i p : ℕ) (c : NetCells) → j < length cells → slice_get cells i ≡ Some c → Has c.compared p
@@ -107,7 +104,7 @@ module _ (log : List (List Bool)) (cells : List NetCells) (long : length cells �
       (λ k p f. is_same_of_same (bit_in log j p) (get_or log_labels i 0 == get_or log_labels j 0)
       (each j i p c less e (has_at c.compared k p f)))
 
-  -- if the log shows the labels, label `k` is the place of a net with label `k`, and no net with this label comes before this place
+  -- The label of a net is the place of the first net with this label.
   pub own_label : ShowsLabels log log_labels cells → (i k : ℕ) → slice_get log_labels i ≡ Some k
       → (k ≤ i) × (slice_get log_labels k ≡ Some k)
   own_label shows i k e =
@@ -178,7 +175,6 @@ shows_decided log labels cells = decided_below (ShowsLabelsIn log labels cells) 
         let all = decided_below (Shows j) (λ i. by_net j i (slice_get cells i) refl) (length cells) in
         (all.0, Decides-like all.0 (λ h i c e. h i (slice_get_within cells i c e) c e) (λ h i less c e. h i c e) all.1)
 
--- in an ascending list, the number at a lower place is lower
 pub place_order : (xs : List ℕ) → Rises xs → (i j a b : ℕ) → slice_get xs i ≡ Some a → slice_get xs j ≡ Some b → i < j → a < b
 place_order [] rise i j a b e f less = cc e
 place_order (x ∷ xs) rise zero zero a b e f less = absurd (omega (arith, less))
@@ -236,8 +232,6 @@ members_rise (x ∷ nets) (l ∷ labels) k rise = by_test (l == k) (members_rise
     by_test true r = (λ y h. let m = members_has nets labels k y h in rise.0 y (has_at nets m.0 y m.1), r)
     by_test false r = r
 
--- the nets with label `k` among the first `i + 1` nets are the nets with label `k` among the first `i` nets, followed by net `i` if its
--- label is `k`
 pub members_more : (nets labels : List ℕ) (k i n l : ℕ) → slice_get nets i ≡ Some n → slice_get labels i ≡ Some l →
     members (take (i + 1) nets) (take (i + 1) labels) k ≡ members (take i nets) (take i labels) k ++ cond (l == k) (n ∷ []) []
 members_more [] labels k i n l e f = cc e
@@ -258,14 +252,12 @@ members_more (x ∷ nets) (y ∷ labels) k (suc i) n l e f =
     by_test true rest = ap (λ (ms : List ℕ). x ∷ ms) rest
     by_test false rest = rest
 
--- if the nets are in ascending order, so are the nets with label `k`
 pub rise_members : (nets labels : List ℕ) (k : ℕ) (group : List ℕ) → Rise nets → group ≡ members nets labels k → Rise group
 rise_members nets labels k group rise is =
     subst (λ (g : List ℕ). Rise g) (sym is)
     (order_pairs (λ a b. a < b) (members nets labels k)
     (members_rise nets labels k (pairs_order (λ a b. a < b) nets rise)))
 
--- the groups of the labels up to `k` are the groups of the labels below `k`, followed by the group of label `k` if there is one
 pub groups_more : (nets labels : List ℕ) (k : ℕ)
     → flat_map (group_at nets labels) (range_with_len 0 (k + 1))
     ≡ flat_map (group_at nets labels) (range_with_len 0 k) ++ group_at nets labels k
@@ -333,7 +325,6 @@ module _ (nets labels : List ℕ) (rise : Rises nets) (count : length labels ≡
       alone x true = (λ y h. absurd h, tt)
       alone x false = tt
 
-  -- each net in the group of label k has this label
   labelled : (k : ℕ) (g : List ℕ) → IsGroupAt k g → (n : ℕ) → Has g n → Labelled nets labels k n
   labelled k g is n h = members_has nets labels k n (subst (λ (l : List ℕ). Has l n) (sym is.nets_are) h)
 
@@ -381,7 +372,6 @@ module _ (nets labels : List ℕ) (rise : Rises nets) (count : length labels ≡
     order = order_pairs Before groups (in_order Before before);
   }
 
-  -- two nets are joined if and only if their labels are equal
   pub joined_labels : AreOrdered groups → (i j a b k l : ℕ) → slice_get nets i ≡ Some a
       → slice_get nets j ≡ Some b → slice_get labels i ≡ Some k → slice_get labels j ≡ Some l →
       are_joined groups a b ≡ (k == l)

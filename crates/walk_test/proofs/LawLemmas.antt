@@ -29,7 +29,6 @@ use Rattle.walk_test.proofs.NetLemmas.{walk_has, count_is, no_nets}
 use Rattle.walk_test.proofs.RowLemmas.{cells_there}
 use Rattle.walk_test.proofs.ExplainLemmas.{ShowJoined, explained_shows, explained_rows, shorts_are_faults}
 
--- the text of the walking test is harmless, whether or not the board has a walk setting
 pub walk_harmless : WalkSafe
     → ((board : RawBoard) (walk : List Ctl) → IsBoard board → IsSafe board (holds walk)
     → IsHarmless board (walk_text board walk)) →
@@ -51,7 +50,6 @@ walk_harmless safe walks passes board rules = by_setting (walk_setting board) re
         (svf_text (board_scans board (scans_by board o)))) (sym e)
         (walks board walk rules (safe board walk rules e))
 
--- `count_walk_scans` of a board's walk is the number of scans of the board's walking test
 pub scans_counted : ScansCounted
 scans_counted board t is = by_setting (walk_setting board) refl
   where
@@ -73,7 +71,6 @@ scans_counted board t is = by_setting (walk_setting board) refl
         ∙ omega (arith, nets, long, all)
         ∙ sym (ap (λ (o : Option (List Ctl)). length (board_scans board (scans_by board o))) e)
 
--- the rows of the walking test follow each other as the scans of a board's test must
 pub in_turn : WalkSafe
     → ((board : RawBoard) (walk : List Ctl) → IsSafe board (holds walk)
     → AreInTurn board (walk_row_scans board walk)) → (board : RawBoard) → IsBoard board
@@ -95,7 +92,6 @@ setting_is safe board rules walk is = record { safe = safe board walk rules is; 
 pub faults_are : WalkSafe → ShortsAreFaults
 faults_are safe board groups rules are = shorts_are_faults board groups (λ walk is. safe board walk rules is) are
 
--- if a board has no walk setting, its only set of groups is the empty set
 no_groups : (board : RawBoard) (groups : List (List ℕ)) → walk_setting board ≡ None → AreGroups board groups → groups ≡ []
 no_groups board [] none are = refl
 no_groups board (group ∷ groups) none are =
@@ -119,8 +115,6 @@ module _ (safe : WalkSafe)
     → CompareRows (walk_row board) (count_by (is_walked board walk) board.nets) (walk ∷ [])
     (compared_scans board (walk_row_scans board walk)))
     (turns : (board : RawBoard) (walk : List Ctl) → IsSafe board (holds walk) → AreInTurn board (walk_row_scans board walk)) where
-  -- if a set of groups explains a log, the log has a row for each walk net, and each compared cell reads 1 exactly if the set joins the
-  -- cell's net with the net that carries 1 in the row
   pub shown_by : (board : RawBoard) (walk : List Ctl) (log : List (List Bool))
       (groups : List (List ℕ)) → IsBoard board → walk_setting board ≡ Some walk
       → Explain board log groups →

@@ -1,4 +1,4 @@
--- Lemmas which say that the digits of a log's rows have the bits that the rows read at the compared positions.
+-- Proofs that the digits of a log's rows have the bits that the rows read at the compared positions.
 use Rattle.std.proofs.Common.{◌≡◌, ◌⊎◌, inl, inr, ℕ, zero, suc, ◌+◌, ◌*◌, ◌/◌, ◌%◌, ◌<◌, ◌≤◌, ◌==◌, ◌^◌, Bool, true, false, ◌&&◌, List, [], ◌∷◌, length, get_or, min, Decides, refl, sym, ap, ◌∙◌, arith}
 use Rattle.std.specs.Int.{bit_at}
 use Rattle.std.specs.Int.Bits.{bit_and, bit_xor}
@@ -13,7 +13,6 @@ use Rattle.response_log.specs.LogRows.{bit_in}
 use Rattle.walk_test.specs.inner.Digits.{digit_bit_at, is_one, differing, IsFresh, IsMarked}
 use Rattle.walk_test.specs.inner.Reading.{ReadTheSame, StartsGroup, AreStarted}
 
--- if bit `k` of a number is 0, `digit_bit` returns false
 bit_off : (n k : ℕ) → n / 2 ^ k % 2 ≡ 0 → digit_bit n k ≡ false
 bit_off n k is = ap (λ (m : ℕ). m == 1) is
 
@@ -108,7 +107,6 @@ module _ (log : List (List Bool)) (mask : List Bool) (marks : List ℕ) (are : m
       let on : get_or mask at false ≡ true = sym (mark_bit mask marks are at) ∙ r.0 in
       (on, sym (row_bit at on) ∙ r.1)
 
-  -- a position is compared and reads 1 if and only if the mask and the log have a 1 there
   one_read : (at : ℕ) → is_one row marks at ≡ (get_or mask at false && bit_in log j at)
   one_read at = by_test (get_or mask at false) refl
     where
@@ -116,7 +114,6 @@ module _ (log : List (List Bool)) (mask : List Bool) (marks : List ℕ) (are : m
       by_test true on = one_is at (bit_in log j at) on refl
       by_test false off = ap (λ (m : Bool). m && digit_bit_at row at) (mark_bit mask marks are at ∙ off)
 
-  -- if the position of a net does not read 1 in a row, no group starts with the net
   pub not_started : (own none : ℕ) (old : List ℕ) (t : Bool) → t ≡ is_one row marks own → t ≡ false
       → Decides t (StartsGroup log mask j own none old)
   not_started own none old t is off = (λ e. let bad : true ≡ false = sym e ∙ off in cc bad, λ s. is ∙ one_read own ∙ s.is_read)

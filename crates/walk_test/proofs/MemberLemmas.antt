@@ -1,4 +1,4 @@
--- Lemmas about the lists of the nets with each label, which a loop fills net by net, and about the groups that these lists give.
+-- Lemmas about the lists of the nets with each label, and about the groups that these lists give. A loop fills the lists net by net.
 use Rattle.std.proofs.Common.{◌≡◌, ℕ, zero, suc, ◌+◌, ◌<◌, ◌==◌, Bool, cond, List, [], ◌∷◌, ◌++◌, length, map, take, replicate, Some, refl, sym, ap, ◌∙◌, subst, arith, append-nil}
 use Rattle.std.specs.Prelude.{slice_get, All}
 use Rattle.std.specs.List.{flat_map, range_with_len}
@@ -14,7 +14,6 @@ use Rattle.walk_test.proofs.LabelLemmas.{members_more, rise_members}
 abbrev with_item : (ℕ → List ℕ) → ℕ → ℕ → ℕ → List ℕ
 with_item f l x k = f k ++ cond (l == k) (x ∷ []) []
 
--- if net `x` is appended to list `l`, the lists with numbers above `l` do not change
 others_kept : (f : ℕ → List ℕ) (a n l x : ℕ) → l < a → map f (range_with_len a n) ≡ map (with_item f l x) (range_with_len a n)
 others_kept f a zero l x less = refl
 others_kept f a (suc n) l x less =
@@ -39,8 +38,7 @@ same_over : (f g : ℕ → List ℕ) → ((k : ℕ) → f k ≡ g k) → (ks : L
 same_over f g same [] = refl
 same_over f g same (k ∷ ks) = cons_path (same k) (same_over f g same ks)
 
--- if the list of each label has the nets with this label among the first `i` nets, then after net `i` is added to the list of its label,
--- the lists have the nets with their labels among the first `i + 1` nets
+-- One turn of the loop over the nets, for net `i`.
 pub all_members_more : (nets labels : List ℕ) (count i n l : ℕ) (now new : List (List ℕ))
     → slice_get nets i ≡ Some n → slice_get labels i ≡ Some l →
     now ≡ map (members (take i nets) (take i labels)) (range_with_len 0 count) → new ≡ noted now (Some l) n →
@@ -53,12 +51,10 @@ all_members_more nets labels count i n l now new e f now_is new_is =
     ∙ same_over (with_item before l n) (members (take (i + 1) nets) (take (i + 1) labels))
     (λ k. sym (members_more nets labels k i n l e f)) (range_with_len 0 count)
 
--- if there are no nets yet, all lists are empty
 pub no_members : (a n : ℕ) → replicate n [] ≡ map (members [] []) (range_with_len a n)
 no_members a zero = refl
 no_members a (suc n) = ap (λ (l : List (List ℕ)). [] ∷ l) (no_members (a + 1) n)
 
--- the groups of labels are the lists of nets with a label, without the lists that have fewer than two nets
 several_over : (nets labels : List ℕ) (ks : List ℕ)
     → flat_map where_several (map (members nets labels) ks) ≡ flat_map (group_at nets labels) ks
 several_over nets labels [] = refl

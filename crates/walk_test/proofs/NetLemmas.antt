@@ -121,14 +121,12 @@ module _ {X : Type 0} (p : X → Bool) (q : ℕ → Bool) where
           (λ (b : Bool). slice_get (cond b (k ∷ kept (k + 1) xs) (kept (k + 1) xs))
           (0 + count_by p (take place xs))) t ∙ ap (λ (m : ℕ). slice_get (kept (k + 1) xs) m) z
 
--- the walk nets are in ascending order
 pub nets_rise : (board : RawBoard) → Rises (walk_nets board)
 nets_rise board =
     order_filter (λ a b. a < b)
     (λ n. is_walk_net board (walk_setting board) (slice_get board.nets n))
     (range_with_len 0 (length board.nets)) (order_range 0 (length board.nets))
 
--- if a board has no walk setting, it has no walk nets
 pub no_nets : (board : RawBoard) → walk_setting board ≡ None → walk_nets board ≡ []
 no_nets board none = drop_all' (range_with_len 0 (length board.nets))
   where
@@ -154,7 +152,6 @@ module _ (board : RawBoard) (walk : List Ctl) (is : walk_setting board ≡ Some 
       ∙ ap (λ (o : Option (List Ctl)). is_walk_net board o (slice_get board.nets i)) is
       ∙ ap (λ (o : Option Net). is_walk_net board (Some walk) o) e
 
-  -- there are as many walk nets as nets that the walk setting observes
   pub count_is : length (walk_nets board) ≡ count_by (is_walked board walk) board.nets
   count_is = kept_length (is_walked board walk) test 0 board.nets tests
 

@@ -17,7 +17,6 @@ use Rattle.walk_test.specs.declared.tables.NetCells.{NetCells}
 use Rattle.walk_test.specs.inner.Reading.{compared_bits, with_compared, first_one, label_of, logged_nets, first_at, first_in, is_even, below, AreCompared, AreLoggedNets, HasPlaces, ReadTheSame, StartsGroup, AreStarted, IsRowRight, AreRead, ShowsLabels}
 use Rattle.walk_test.proofs.LabelLemmas.{first_low, first_holds, first_same, label_is, first_compared, each_shows, shows_each}
 
--- if row `f` comes before row `j`, `below` returns `f`
 below_less : (j none f : ℕ) → f < j → below j none f ≡ f
 below_less j none f less = ap (λ (b : Bool). cond b f none) (lt-ltb f j less)
 
@@ -44,11 +43,10 @@ first_most (row ∷ log) at = by_test (get_or row at false) (first_most log at)
     by_test true most = omega arith
     by_test false most = omega (arith, most)
 
--- if the first row of a position is row `j` of the log, the position reads 1 in row `j`
 first_reads : (log : List (List Bool)) (at j : ℕ) → j < length log → first_one log at ≡ j → bit_in log j at ≡ true
 first_reads log at j less is = ap (λ (k : ℕ). bit_in log k at) (sym is) ∙ first_holds log at (omega (arith, less, is))
 
--- adding the compared bits of net `i` to the compared bits of the first `i` nets gives the compared bits of the first `i + 1` nets
+-- One turn of the loop over the nets, for net `i`.
 pub compared_more : (len : ℕ) (nets : List NetCells) (i : ℕ) (net : NetCells) → i < length nets
     → net ≡ get_or nets i net
     → with_compared (compared_bits len (take i nets)) net ≡ compared_bits len (take (i + 1) nets)
@@ -104,8 +102,6 @@ module _ (len : ℕ) (nets : List NetCells) where
           let place = has_place nets r.0 r.1 in
           (place.0, r.0, place.1, subst (λ (k : ℕ). Contains r.0.compared k) same (has_contains r.0.compared x r.2))
 
--- A log with a row of `len` bits for each net, and the compared bits of these nets, are `LoggedNets`. The nets must be fewer than 2^32, and
--- each must have compared positions, all less than `len`.
 pub all_logged : (log : List (List Bool)) (nets : List NetCells) (len : ℕ) (mask : List Bool)
     → length nets < 2 ^ 32 → HasSize (length nets) len log → All (HasPlaces len) nets
     → mask ≡ compared_bits len nets → AreLoggedNets (logged_nets log nets mask)
@@ -130,7 +126,6 @@ module _ (log : List (List Bool)) (mask : List Bool) (nets : List NetCells) (non
     label_at : (k : ℕ) (net : NetCells) → slice_get nets k ≡ Some net → get_or (map (label_of log) nets) k 0 ≡ first_one log (first_at net)
     label_at k net e = get_or_from_slice_get (map (label_of log) nets) k (first_one log (first_at net)) 0 (label_is log nets k net e)
 
-    -- if all rows show the labels, a compared cell of net `i` reads 1 in row `k` if and only if nets `i` and `k` have the same first row
     shown : ShowsLabels log (map (label_of log) nets) nets → (k i at : ℕ) (other net : NetCells)
         → slice_get nets k ≡ Some other → slice_get nets i ≡ Some net → Has net.compared at →
         bit_in log k at ≡ (first_one log (first_at net) == first_one log (first_at other))

@@ -40,8 +40,8 @@ use Rattle.walk_test.specs.Tables.{tdi_of, mask_of, still_row, AreNetCells}
 use Rattle.walk_test.specs.inner.Tables.{tdo_of, positions_beside}
 use Rattle.walk_test.proofs.CellLemmas.{WalkedBy, compared_of, compared_device, compared_position}
 
--- Functions f and g give each item a bit. The bits of f are set in row s at the places of the items, and the bits of g in row t. If the
--- rows agree at place `i` before that, they agree there afterwards, or f and g give an item with this place two different bits.
+-- Setting the bits of f in one row and of g in another makes the rows differ at place `i` only if f and g give an item with this place
+-- different bits.
 apart_at : {X : Type 0} (place : X → ℕ) (f g : X → Bool) (xs : List X) (s t : List Bool) (i : ℕ) → length s ≡ length t →
     (get_or s i false ≡ get_or t i false) ⊎ ((x : X) × Has xs x × (place x ≡ i) × (f x ≡ g x → ⊥)) →
     (get_or (assigned place f s xs) i false ≡ get_or (assigned place g t xs) i false)
@@ -90,7 +90,6 @@ apart_at {X} place f g (x ∷ xs) s t i long h =
     lift : Differ xs → Differ (x ∷ xs)
     lift (y, has, at, ne) = (y, inr has, at, ne)
 
-    -- if the lemma holds for the remaining items, it also holds for `x` followed by the remaining items
     by_rest :
         (after ⊎ Differ xs
         → (get_or (assigned place f (set s (place x) (f x)) xs) i false
@@ -109,7 +108,6 @@ apart_at {X} place f g (x ∷ xs) s t i long h =
         by_end (inl k) = inl k
         by_end (inr d) = inr (lift d)
 
--- if a bit is 1 after the items are set, it was 1 before, or an item set it to 1
 one_from : {X : Type 0} (place : X → ℕ) (f : X → Bool) (xs : List X) (s : List Bool) (i : ℕ)
     → get_or (assigned place f s xs) i false ≡ true →
     (get_or s i false ≡ true) ⊎ ((x : X) × Has xs x × (place x ≡ i) × (f x ≡ true))
@@ -148,7 +146,6 @@ pub record CellsOf (board : RawBoard) (walk : List Ctl) : Type 0 where
   pub readers : List (List ReaderCell)
   pub are : ReadersOf board readers
 
--- if a plan has the setting as its only pass, the plan gives the driver cells of this setting and the cells that read each net
 pub cells_of_plan : (board : RawBoard) (plan : PlanTables) (walk : List Ctl) → IsPlanOf board plan
     → plan.passes ≡ walk ∷ [] → CellsOf board walk
 cells_of_plan board plan walk p is =
@@ -167,7 +164,6 @@ cells_of_plan board plan walk p is =
           );
     }
 
--- a net has at most one driver cell in a setting
 pub one_driver : (board : RawBoard) (walk : List Ctl) (d e : DriverCell) → IsDriverCell board walk d
     → IsDriverCell board walk e → d.net ≡ e.net → (d.place ≡ e.place) × (d.position ≡ e.position)
 one_driver board walk d e p q same =
@@ -223,7 +219,6 @@ module _ (board : RawBoard) (rules : IsBoard board) (walk : List Ctl) (cells : C
       ap (λ (l : List Bool). length l) (tdi_laid board (record { now = row; before = quiet_row }))
       ∙ length-laid (row_cells board row) board
 
-  -- two rows differ only at the driver cells of nets that carry different bits
   tdi_differ : (f g : ℕ → Bool) (i : ℕ)
       → (get_or (tdi_of board (mark_row f)) i false ≡ get_or (tdi_of board (mark_row g)) i false)
       ⊎ ((d : DriverCell) × Has cells.drivers d × (d.position ≡ i) × (f d.net ≡ g d.net → ⊥))
@@ -244,7 +239,6 @@ module _ (board : RawBoard) (rules : IsBoard board) (walk : List Ctl) (cells : C
           ∙ sym (ap (λ (l : List Bool). get_or l i false) (tdi_is g)))
       by_case (inr d) = inr d
 
-  -- the driver cell of a net has the bit that the net carries
   tdi_at : (f : ℕ → Bool) (d : DriverCell) → IsDriverCell board walk d
       → (d.position < length (tdi_of board (mark_row f)))
       × (get_or (tdi_of board (mark_row f)) d.position false ≡ f d.net)
@@ -288,7 +282,6 @@ module _ (board : RawBoard) (rules : IsBoard board) (walk : List Ctl) (cells : C
               (standing board rules d.net s.net d.place s.pin s.at s.is_net s.is_pin s.is_at).device
               s.entry.num
 
-  -- If only one net carries 1, the row is the row without a 1 in which the net's driver cell is set to 1.
   pub marked_row : (f : ℕ → Bool) (d : DriverCell) → IsDriverCell board walk d → f d.net ≡ true
       → ((n : ℕ) → WalkedBy board walk n → f n ≡ true → n ≡ d.net)
       → set (tdi_of board (still_row walk)) d.position true ≡ tdi_of board (mark_row f)
@@ -330,7 +323,6 @@ module _ (board : RawBoard) (rules : IsBoard board) (walk : List Ctl) (cells : C
           (true_of (f x.net) ne) in
           inr (d, inl refl, sym (one_driver board walk x d q s same).1 ∙ at)
 
-  -- clearing all driver cells of a row gives the row without a 1
   pub cleared_row : {X : Type 0} (place : X → ℕ) (xs : List X) (f : ℕ → Bool)
       → ((x : X) → Has xs x → (d : DriverCell) × IsDriverCell board walk d × (place x ≡ d.position))
       → ((d : DriverCell) → IsDriverCell board walk d → (x : X) × Has xs x × (place x ≡ d.position))
@@ -383,7 +375,6 @@ module _ (board : RawBoard) (rules : IsBoard board) (walk : List Ctl) (cells : C
       (mask_compared board rules walk (λ n. Some (f n)) (bit f) cells.drivers cells.only
       cells.every (λ d has. refl) cells.readers cells.are)
 
-  -- the compared positions do not depend on the bits that the nets carry
   pub mask_same : (f g : ℕ → Bool) → mask_of board (mark_row f) ≡ mask_of board (mark_row g)
   mask_same f g = mask_is f ∙ sym (mask_is g)
 
@@ -452,7 +443,6 @@ module _ (board : RawBoard) (rules : IsBoard board) (walk : List Ctl) (n : ℕ) 
   abbrev c : Compared board (holds walk) n net
   c = compared_of board rules walk n net is_net d observing r q other
 
-  -- if a row has a bit for each cell, it has the bit of this cell at the cell's position
   pub laid_here : (g : ℕ → RawDevice → ℕ → Bool)
       → (r.position < data_bits board)
       × (get_or (bits_of_parts g board) r.position false ≡ g c.k c.device c.cell)
@@ -475,7 +465,6 @@ module _ (board : RawBoard) (rules : IsBoard board) (walk : List Ctl) (n : ℕ) 
       ∙ (laid_here (λ part device cell. unwrap_or (expect_bit board (pass_row walk (λ m. Some (f m))) part device cell) false)).1
       ∙ ap (λ (o : Option Bool). unwrap_or o false) (expects board (pass_row walk (λ m. Some (f m))) n net c)
 
--- each position in `positions_beside` is the position of a cell that reads a pin other than the pin at this place
 beside_positions : (place : ℕ) (readers : List ReaderCell) (position : ℕ)
     → Has (positions_beside place readers) position
     → (r : ReaderCell) × Has readers r × ((r.place == place) ≡ false) × (r.position ≡ position)
@@ -524,7 +513,6 @@ net_cells board walk n w position readers only every at =
           (positions_has w.driver readers first.0 (every first.0 first.1) first.2);
     }
   where
-    -- some cell reads the net on a pin other than the driver's pin
     first : (r : ReaderCell) × IsReaderCell board w.net r × ((r.place == w.driver) ≡ false)
     first =
         let beside : reads_beside board w.driver 0 w.net.pins ≡ true = beside_observing board (holds walk) w.net w.driver w.observing in
@@ -536,7 +524,6 @@ net_cells board walk n w position readers only every at =
         not_false true e = cc e
         not_false false e = refl
 
--- each walk net has a driver cell and compared cells
 pub cells_there : (board : RawBoard) (walk : List Ctl) (n : ℕ) → WalkedBy board walk n → (cells : NetCells) × AreNetCells board walk n cells
 cells_there board walk n w =
     let d = driver_cell board walk n w.net w.driver w.is_net w.observing in

@@ -104,7 +104,7 @@ one_short_is = record {
     above n (inl e) = omega (arith, e)
     above n (inr has) = absurd has
 
--- The list is not a set of groups. The samples have a group of one net, nets that are not in ascending order, a net in two groups, and
+-- The list is not a set of groups. The samples are a group of one net, nets that are not in ascending order, a net in two groups, and
 -- groups whose lowest nets are not in ascending order.
 abbrev NoGroups : List (List ℕ) → Type 0
 NoGroups groups = AreGroups four_wires groups → ⊥

@@ -1,4 +1,4 @@
--- Samples of the lines of groups, worked by hand.
+-- Samples of the lines of groups, worked out by hand.
 use Rattle.std.proofs.Common.{◌≡◌, [], ◌∷◌, codes, refl}
 use Rattle.std.specs.Fmt.{digits}
 use Rattle.line_printer.specs.Prints.{line_of, whole}

@@ -1,4 +1,4 @@
--- Lemmas which say that the labels of the walk nets give the only set of groups that explains a log.
+-- Proofs that the labels of the walk nets give the only set of groups that explains a log.
 use Rattle.std.proofs.Common.{◌≡◌, inl, inr, ℕ, zero, suc, ◌<◌, ◌≤◌, ◌==◌, Bool, true, false, cond, ◌&&◌, List, [], ◌∷◌, length, take, map, get_or, Option, Some, None, Decides, refl, sym, ◌∙◌, ap, subst, arith}
 use Rattle.std.specs.Prelude.{◌↔◌, slice_get, count_by, All, Contains, Result, Ok, Err, IfOk, option_map}
 use Rattle.std.specs.List.{list_all}
@@ -169,7 +169,6 @@ compared_cell board walk n c a p h =
       position_is = r.3;
     }
 
--- if a position is one of a net's compared positions, it is within a data scan
 pub position_within : (board : RawBoard) → IsBoard board → (walk : List Ctl) (n : ℕ) (c : NetCells)
     → AreNetCells board walk n c → (p : ℕ) → Has c.compared p → p < data_bits board
 position_within board rules walk n c a p h =
@@ -199,7 +198,7 @@ walked board t w some = by_setting (walk_setting board) refl
         let are : CellsAre board walk t.nets t.cells = record { count = tables.count; are = tables.cells } in
         record { walk = walk; is = e; are = subst (λ (l : List ℕ). CellsAre board walk l t.cells) w.nets are }
 
--- like `walked`, but takes the walk's tables and cells by equations
+-- Like `walked`, but the walk's tables and cells are given by equations.
 pub walked_at : (board : RawBoard) (seen t : WalkTables) (cells : List NetCells) (passes : ℕ)
     → IsWalkOf board seen → t ≡ seen → cells ≡ t.cells → passes ≡ length t.plan.passes
     → (passes ≡ 0 → ⊥) → Walked board cells
@@ -237,7 +236,6 @@ module _ (board : RawBoard) (rules : IsBoard board) (cells : List NetCells) (w :
         within = all_from_has (λ (p : ℕ). p < len) c.compared (λ p k. omega (arith, is, position_within board rules w.walk a.0 c a.1 p k));
       })
 
--- If a property holds for the log and the nets in `it`, it also holds for an equal log and equal nets.
 pub by_parts : (it : LoggedNets) (log : List (List Bool)) (cells : List NetCells) → it.log ≡ log
     → it.nets ≡ cells → (P : List (List Bool) → List NetCells → Type 0) → P it.log it.nets
     → P log cells
@@ -245,12 +243,10 @@ by_parts it log cells log_is nets_are P p =
     subst (λ (n : List NetCells). P log n) nets_are
     (subst (λ (l : List (List Bool)). P l it.nets) log_is p)
 
--- if P holds for the value of an `Ok`, and Q follows from P, then Q holds for it
 pub ok_then : {T E : Type 0} (r : Result T E) {P Q : T → Type 0} → IfOk r P → ((x : T) → P x → Q x) → IfOk r Q
 ok_then (Ok x) h f = f x h
 ok_then (Err e) h f = tt
 
--- `AreInTurn` is true of the empty list of scans
 no_scans : (board : RawBoard) → AreInTurn board []
 no_scans board = record { follow = tt; safe = λ x scan at. cc at }
 
@@ -278,7 +274,6 @@ shape_decided board scans log = (
     rows : Bool
     rows = length log == count_by is_compared (board_scans board scans)
 
--- if groups are the answer for a log, their nets are nets of the board
 pub found_named : (board : RawBoard) (log : List (List Bool)) (found : Option (List (List ℕ)))
     → AreFound board log found → AreNamed board found
 found_named board log None h = tt
@@ -421,13 +416,11 @@ module _ (safe : WalkSafe)
       joined_cells : CellsJoined groups
       joined_cells = cells_joined groups (shown_by safe by_rows compare turns board walk log groups rules is explains).0
 
-      -- the first compared cell of net `a` reads 1 exactly in the rows of the nets that are joined with net `a`
       first_reads : (i j a b : ℕ) (c : NetCells) → slice_get nets i ≡ Some a
           → slice_get cells i ≡ Some c → slice_get nets j ≡ Some b
           → bit_in log j (first_cell c) ≡ are_joined groups a b
       first_reads i j a b c ni ci nj = joined_cells i j a b (first_cell c) c ni ci nj (first_compared c (some i c ci))
 
-      -- the label of a net is the place of the first net that is joined with this net
       label_joined : (i a : ℕ) (c : NetCells) → slice_get nets i ≡ Some a
           → slice_get cells i ≡ Some c
           → (n : ℕ) × (slice_get nets (label_of log c) ≡ Some n) × (are_joined groups a n ≡ true)
@@ -494,7 +487,6 @@ module _ (safe : WalkSafe)
     found_by shape true d = explain shape (d.0 refl)
     found_by shape false d = λ groups explains. let bad : false ≡ true = d.1 (all_show groups explains) in cc bad
 
-  -- if a board has no walk setting, the empty set of groups explains each log of the right shape
   none_explain : (board : RawBoard) → IsBoard board → walk_setting board ≡ None
       → (log : List (List Bool)) → HasShape board [] log → Explain board log []
   none_explain board rules none log shape = record {
@@ -506,7 +498,6 @@ module _ (safe : WalkSafe)
         (shape, λ x scan logged choice at. cc at));
   }
 
-  -- if a board has no pass, the answer for a log is the empty set of groups
   pub found_nothing : (board : RawBoard) → IsBoard board → (log : List (List Bool))
       → length (option_to_list (walk_setting board)) ≡ 0 → length log ≡ length (walk_nets board)
       → AreFound board log (Some [])
@@ -524,7 +515,7 @@ module _ (safe : WalkSafe)
                 (omega (arith, less, no_rows));
           })
 
-  -- like `found_nothing`, but takes the walk's tables and the result by equations
+  -- Like `found_nothing`, but the walk's tables and the result are given by equations.
   pub nothing_at : (board : RawBoard) → IsBoard board
       → (seen t : WalkTables) (log : List (List Bool)) (passes : ℕ) (found : List (List ℕ))
       → IsWalkOf board seen → t ≡ seen → passes ≡ length t.plan.passes → passes ≡ 0 →
@@ -536,7 +527,7 @@ module _ (safe : WalkSafe)
       subst (λ (l : List (List ℕ)). Explain board log l) (sym empty)
       (found_nothing board rules log none (rows ∙ ap (λ (l : List ℕ). length l) w.nets))
 
-  -- like `found_by`, but takes the nets, the labels and the result by equations
+  -- Like `found_by`, but the nets, the labels and the result are given by equations.
   pub found_at : (board : RawBoard) → IsBoard board → (cells : List NetCells) → Walked board cells
       → (log : List (List Bool)) → length log ≡ length (walk_nets board)
       → All (λ row. length row ≡ data_bits board) log →
@@ -553,7 +544,6 @@ module _ (safe : WalkSafe)
       ∙ ap (λ (l : List ℕ). cond shown (Some (groups_by (walk_nets board) l)) None) used_is))
       (found_by board rules w.walk w.is log cells w.are rows bits shown by_labels)
 
-  -- if the log does not show the labels, no set of groups explains the log
   pub none_found : (board : RawBoard) → IsBoard board → (cells : List NetCells) → Walked board cells
       → (log : List (List Bool)) → length log ≡ length (walk_nets board)
       → All (λ row. length row ≡ data_bits board) log →
@@ -563,7 +553,6 @@ module _ (safe : WalkSafe)
       found_at board rules cells w log rows bits (walk_nets board) (map (label_of log) cells)
       (map (label_of log) cells) refl refl refl false decides None refl
 
-  -- if the log shows the labels, the groups of the labels explain the log
   pub groups_found : (board : RawBoard) → IsBoard board → (cells : List NetCells)
       → Walked board cells → (log : List (List Bool)) → length log ≡ length (walk_nets board)
       → All (λ row. length row ≡ data_bits board) log →
@@ -574,7 +563,6 @@ module _ (safe : WalkSafe)
       found_at board rules cells w log rows bits nets labels used nets_are are (used_are ∙ are) true
       (λ e. shows, λ s. refl) (Some groups) (ap (λ (l : List (List ℕ)). Some l) groups_are)
 
-  -- each log of a board has an answer
   pub some_found : (board : RawBoard) (log : List (List Bool)) → IsBoard board → (found : Option (List (List ℕ))) × AreFound board log found
   some_found board log rules = by_setting (walk_setting board) refl
     where

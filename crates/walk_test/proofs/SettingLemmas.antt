@@ -35,7 +35,7 @@ use Rattle.scan_planner.specs.Plans.{ArePlannable}
 use Rattle.walk_test.specs.WalkTest.{is_switched_by, switches_some, without_switching, walk_setting}
 use Rattle.walk_test.specs.inner.Setting.{own_switch, entry_switch, pin_switch, with_some, with_pins, with_net, all_switching}
 
--- true if the option has the control `c`
+-- the option has the control `c`
 abbrev is_ctl : Option Ctl → Ctl → Bool
 is_ctl None c = false
 is_ctl (Some d) c = same_ctl d c
@@ -64,7 +64,6 @@ pins_held board pull s (pin ∷ pins) c =
     ∙ ap (λ (b : Bool). rest || b) (some_held s (pin_switch board pull pin.at) c)
     ∙ regroup (is_ctl (pin_switch board pull pin.at) c) rest (holds s c)
 
--- if the net is not guarded, `pin_switch` finds the control `c` for a pin if and only if the pin is a switching driver with this control
 pin_switched : (board : RawBoard) (net : Net) (pin : NetPin) (c : Ctl) → guarded board net ≡ false
     → is_ctl (pin_switch board net.pull pin.at) c ≡ is_switched_by board c net pin
 pin_switched board net pin c open_net = by_at pin.at
@@ -155,8 +154,7 @@ nets_held board s (net ∷ nets) c =
 pub switching_is : (board : RawBoard) (c : Ctl) → holds (all_switching board board.nets) c ≡ switches_some board c
 switching_is board c = nets_held board [] board.nets c ∙ or-false (switches_some board c)
 
--- if `old` has the controls of the switching drivers of the first `n` nets, `new` has the controls of the switching drivers of the first `n
--- + 1` nets
+-- One turn of the loop over the nets, for net `n`.
 pub net_more : (board : RawBoard) (nets : List Net) (n : ℕ) (net : Net) (old new : List Ctl)
     → nets ≡ board.nets → n < length nets → net ≡ get_or nets n net
     → old ≡ all_switching board (take n nets) →
@@ -173,8 +171,6 @@ net_more board nets n net old new are less net_is old_is new_is =
     (ap (λ (l : List Net). all_switching board l) (take_more nets n net less)
     ∙ fold-append (with_net board) [] (take n nets) (get_or nets n net ∷ []))
 
--- if `set` has the controls of all switching drivers, a pass without the controls in `set` is the pass without the controls of switching
--- drivers
 pub left_is : (board : RawBoard) (set pass : List Ctl) → set ≡ all_switching board board.nets
     → filter (λ c. not (holds set c)) pass ≡ without_switching board pass
 left_is board set pass is =
@@ -186,7 +182,6 @@ left_order p pass order =
     let R : Ctl → Ctl → Type 0 = λ a b. Rattle.std.specs.Prelude.IsTrue (precedes a b) in
     order_pairs R (filter p pass) (order_filter R p pass (pairs_order R pass order))
 
--- a filtered pass holds a control if and only if the pass holds the control and the control satisfies the test
 held_left : (p : Ctl → Bool) (pass : List Ctl) (c : Ctl) → holds (filter p pass) c ≡ (holds pass c && p c)
 held_left p [] c = refl
 held_left p (d ∷ pass) c = by_tests (p d) (same_ctl c d) refl refl (held_left p pass c)
@@ -201,7 +196,6 @@ held_left p (d ∷ pass) c = by_tests (p d) (same_ctl c d) refl refl (held_left 
         rest ∙ ap (λ (b : Bool). holds pass c && b) off ∙ and-false (holds pass c) ∙ sym off
     by_tests false false e f rest = rest
 
--- if the setting holds a control, the pass holds the control, and no switching driver has this control
 pub setting_held : (board : RawBoard) (pass : List Ctl) (c : Ctl)
     → holds (without_switching board pass) c ≡ true
     → (holds pass c ≡ true) × (switches_some board c ≡ false)
@@ -209,7 +203,6 @@ setting_held board pass c h =
     let r = and_parts (holds pass c) (not (switches_some board c)) (sym (held_left (λ d. not (switches_some board d)) pass c) ∙ h) in
     (r.0, not-true (switches_some board c) r.1)
 
--- the setting holds a control if and only if the first pass holds the control and no switching driver has this control
 pub setting_kept : (board : RawBoard) (pass setting : List Ctl) (c : Ctl)
     → slice_get (passes_of board) 0 ≡ Some pass → walk_setting board ≡ Some setting
     → holds setting c ≡ (holds pass c && not (switches_some board c))
@@ -391,7 +384,6 @@ passes_useful board =
     (λ d h. let r = flat_map_has (λ (drivers : List Drive). drivers) (drivers_by_net board) d h in by_net_tested board r.0 r.1 d r.2)
     (λ pass none. absurd none))
 
--- a plan can be made with the walk setting as its only pass
 pub setting_plannable : (board : RawBoard) (setting : List Ctl) → walk_setting board ≡ Some setting
     → ArePasses board (passes_of board) → PlansUseful board → ArePlannable board (setting ∷ [])
 setting_plannable board setting is kept plans =
@@ -409,7 +401,6 @@ setting_plannable board setting is kept plans =
 pub nothing_plannable : (board : RawBoard) → ArePlannable board []
 nothing_plannable board = record { safe = λ x pass e. cc e; controls = λ x pass c e. cc e }
 
--- if the value of an `Ok` result is the list of only the walk setting, and this list can be planned, the value can be planned
 pub only_plannable : {V E : Type 0} (view : V → List (List Ctl)) (result : Result V E)
     (board : RawBoard) (setting : List Ctl) → IfOk result (λ v. view v ≡ setting ∷ [])
     → ArePlannable board (setting ∷ []) → IfOk result (λ v. ArePlannable board (view v))

@@ -1,4 +1,4 @@
--- The rows of a scan of a walk.
+-- The rows of a scan of the walking test.
 use Rattle.std.specs.Prelude.{◌≡◌, ℕ, ◌<◌, ◌≤◌, Bool, true, false, List, length, Some, slice_get, slice_index_or}
 use Rattle.std.specs.List.{list_any}
 use Rattle.board_defs.specs.Limits.{most_bits}
@@ -7,8 +7,9 @@ use Rattle.tap_defs.specs.declared.scan.Shape.{Shape}
 use Rattle.tap_defs.specs.chain.Scan.{scan_bits}
 use Rattle.walk_test.specs.WalkTest.{walk_scans}
 
--- The rows are scan k of the walking test, in the form that the writer takes. All three rows have the same length, from 1 bit to
--- `most_bits` bits. The scan is compared if and only if some bit of the mask is 1. TDO has a 1 only where the mask has a 1.
+-- The rows are scan k of the walking test, in the form that the SVF writer takes. All three rows have the same length, from 1 bit to
+-- `most_bits` bits. The scan is compared if and only if some bit of the mask is 1. A bit of TDO is 1 only if the mask has a 1 at the same
+-- position.
 pub record FillsWalk (board : RawBoard) (k : ℕ) (shape : Shape) (tdi tdo mask : List Bool) : Type 0 where
   pub scan : slice_get (walk_scans board) k ≡ Some (record { ir = shape.ir; bits = scan_bits tdi tdo mask })
   pub some : 0 < length tdi

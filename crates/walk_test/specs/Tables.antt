@@ -1,4 +1,4 @@
--- The tables that a walk keeps of a board: its plan, its nets with their cells, and the rows that all scans share.
+-- The tables of a walk, which is the walking test of one board: its plan, its nets with their cells, and the rows that all scans share.
 use Rattle.std.specs.Prelude.{◌≡◌, ◌↔◌, ℕ, suc, ◌+◌, ◌<◌, ◌==◌, Bool, false, List, [], ◌∷◌, length, Some, slice_get, Contains}
 use Rattle.std.specs.Option.{option_to_list}
 use Rattle.board_defs.specs.declared.board.Net.{Net}
@@ -20,7 +20,7 @@ use Rattle.walk_test.specs.WalkTest.{walk_setting, walk_nets}
 abbrev pub tdi_of : RawBoard → TestRow → List Bool
 tdi_of board row = tdi_bits (joined (row_bits board (record { now = row; before = quiet_row })))
 
--- a 1 for each position that is compared by the scan after the scan that shifts in the row
+-- a row with a 1 at each position that is compared for `row`; the scan after the scan that shifts in `row` compares these positions
 abbrev pub mask_of : RawBoard → TestRow → List Bool
 mask_of board row = mask_bits (joined (row_bits board (record { now = quiet_row; before = row })))
 

@@ -1,4 +1,4 @@
-// Rows as the values of their digits. A comparison of rows takes many digits at a time.
+// Rows as the values of their hexadecimal digits. A comparison of rows takes many digits at a time.
 ghost use Rattle.std.specs.Prelude.{◌≡◌, ℕ, ◌+◌, ◌*◌, ◌/◌, ◌≤◌, ◌<◌, ◌^◌, false, length, slice_index_or, ◌↔◌, IsTrue};
 ghost use Rattle.std.specs.Bool.{OnTrue};
 ghost use Rattle.walk_test.specs.inner.Digits.{is_one, differing, AreClear};
@@ -8,7 +8,8 @@ use bt_bits::digit_bit;
 // The number of digits in a block. A search tests whole blocks first, since most digits of a row are 0.
 const BLOCK: usize = 64;
 
-/// A row as the values of its digits. `mask` has the same number of digits, with a 1 for each compared bit of the row.
+/// A row as the values of its hexadecimal digits, four bits each. `mask` has the same number of digits, with a 1 for
+/// each compared bit of the row.
 #[derive(Clone, Copy)]
 pub struct MaskedRow<'a> {
     pub digits: &'a [u8],
@@ -37,7 +38,7 @@ impl MaskedRow<'_> {
         digit_bit(digit_at(self.mask, at / 4), bit) && digit_bit(digit_at(self.digits, at / 4), bit)
     }
 
-    // Returns whether the digits `from..to` have no compared 1.
+    // Returns whether the digits `from..to` have no compared 1. `to` must be at most the number of digits.
     #[inline]
     fn are_clear(&self, from: usize, to: usize) -> bool
         requires { to ≤ length self.now.digits.now }
@@ -50,7 +51,8 @@ impl MaskedRow<'_> {
         ones == 0
     }
 
-    // Skips blocks of `block` digits that have no compared 1, from `from` on. Returns the place where the skipped blocks end.
+    // Skips blocks of `block` digits that have no compared 1, from `from` on. Returns the place where the skipped
+    // blocks end. `from` must be at most the number of digits, and `block` must be above 0.
     #[inline]
     fn blocks_end(&self, from: usize, block: usize) -> usize
         requires from { from ≤ length self.now.digits.now }
@@ -66,8 +68,8 @@ impl MaskedRow<'_> {
         k
     }
 
-    // Skips digits that have no compared 1, from `from` on: first block by block, and then digit by digit. Returns the place where the
-    // skipped digits end.
+    // Skips digits that have no compared 1, from `from` on: first block by block, and then digit by digit. Returns the
+    // place where the skipped digits end. `from` must be at most the number of digits.
     fn next_marked(&self, from: usize) -> usize
         requires { from ≤ length self.now.digits.now }
         ensures past { from ≤ result }
@@ -77,7 +79,8 @@ impl MaskedRow<'_> {
         self.blocks_end(self.blocks_end(from, BLOCK), 1)
     }
 
-    /// Returns a position after `at`. No position between the two is compared and reads 1.
+    /// Returns a position after `at`. No position between the two is compared and reads 1. `at` must be a position of
+    /// the row, which must have fewer than 2^60 digits.
     #[inline]
     pub fn position_after(&self, at: usize) -> usize
         requires few { length self.now.digits.now < 2 ^ 60 }
@@ -93,8 +96,8 @@ impl MaskedRow<'_> {
         }
     }
 
-    /// Returns whether another row with the same number of digits reads the same at every compared position. The loop goes through all
-    /// digits without a branch, so the processor can compare many digits at a time.
+    /// Returns whether another row reads the same at every compared position. Both rows must have the same number of
+    /// digits. The loop goes through all digits without a branch, so the processor can compare many digits at a time.
     pub fn is_alike(&self, other: &[u8]) -> bool
         requires { length other.now ≡ length self.now.digits.now }
         ensures { IsTrue result

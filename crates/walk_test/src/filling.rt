@@ -14,7 +14,7 @@ use bt_bits::Row;
 use std::marker::Model;
 use tap_defs::{ScanRows, Shape};
 
-// A board that has a pass, with its walk. Fills the scans after the EXTEST codes.
+// A board that has a pass, with the tables of its walking test. Fills the scans after the EXTEST codes.
 #[derive(Drop)]
 struct RowFiller<'a> {
     board: &'a Board,
@@ -48,7 +48,7 @@ fn cells_before(tables: &WalkTables, j: usize) -> Option<&NetCells>
     if j > 0 { cells_at(tables, j - 1) } else { None }
 }
 
-/// Sets the bits at these positions. Positions past the end are ignored.
+/// Sets the bits at these positions to 1. Positions past the end are ignored.
 pub fn set_all(positions: &[u32], row: &mut Row)
     ensures bits { row.new.bits ≡ assigned (λ p. p) (λ p. true) row.old.bits positions.now }
     ensures room { row.new.room ≡ row.old.room }
@@ -70,6 +70,7 @@ impl<'a> RowFiller<'a> {
     }
 
     // Fills `tdi` with row `j`, in which walk net `j` carries 1. After the last walk net, the row is the quiet row.
+    // `tdi` must have room for a scan of data.
     fn shift(&self, j: usize, tdi: &mut Row)
         requires { data_bits self.now.board ≤ tdi.old.room }
         ensures bits { tdi.new.bits ≡ shifted_in self.now j }
@@ -85,8 +86,9 @@ impl<'a> RowFiller<'a> {
         }
     }
 
-    // Fills `tdo` and `mask` for scan `j`, which captures while row `j - 1` is in the latches. The compared cells of the walk net that
-    // carries 1 in that row should read 1, and all other compared cells should read 0. Scan 0 compares nothing.
+    // Fills `tdo` and `mask` for scan `j`, which captures while row `j - 1` is in the latches. The compared cells of
+    // the walk net that carries 1 in that row should read 1, and all other compared cells should read 0. Scan 0
+    // compares nothing. `j` must be at most the number of walk nets, and each row must have room for a scan of data.
     fn compare(&self, j: usize, tdo: &mut Row, mask: &mut Row)
         requires row { j ≤ length self.now.tables.nets }
         requires tdo_room { data_bits self.now.board ≤ tdo.old.room }
@@ -108,7 +110,9 @@ impl<'a> RowFiller<'a> {
         }
     }
 
-    // Fills the three rows with scan `j`, counted from the first scan after the EXTEST codes.
+    // Fills the three rows with scan `j`, counted from the first scan after the EXTEST codes, and returns its shape.
+    // `j` must be at most the number of walk nets. Each row must have room for a scan of instructions and for a scan of
+    // data.
     fn fill(&self, j: usize, rows: &mut ScanRows) -> Shape
         requires row { j ≤ length self.now.tables.nets }
         requires room { EachHasRoom (IsRoom self.now.board) rows.old }
@@ -125,7 +129,8 @@ impl<'a> RowFiller<'a> {
     }
 }
 
-/// Fills the rows with scan `k`, and returns its shape.
+/// Fills the rows with scan `k` of the walking test, and returns its shape. `k` must be below the number of scans, and
+/// `tables` must be made for the board. Each row must have room for a scan of instructions and for a scan of data.
 pub fn fill_scan(board: &Board, tables: &WalkTables, k: u64, rows: &mut ScanRows) -> Shape
     requires walk { IsWalkOf board.now tables.now }
     requires scan { k < count_walk_scans tables.now }

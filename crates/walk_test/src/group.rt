@@ -4,7 +4,7 @@ ghost use Rattle.walk_test.specs.Groups.{Rise};
 
 use std::marker::Model;
 
-/// Walk nets that are shorted together. The model is the list of their numbers, in ascending order.
+/// Walk nets that are shorted together. Its value in contracts is the list of their numbers, in ascending order.
 #[derive(Debug, Drop)]
 pub struct Group {
     nets: Vec<u32>,
@@ -22,7 +22,7 @@ impl Model for Group {
 }
 
 impl Group {
-    // Returns the group of these nets.
+    // Returns the group of these nets, which must be in ascending order.
     pub(crate) fn of(nets: Vec<u32>) -> Group
         requires { Rise nets.items }
         ensures { result ≡ nets.items }

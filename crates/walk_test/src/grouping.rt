@@ -1,4 +1,5 @@
-// Finds the groups that explain a log.
+// Finds the groups that explain a log. The label of a walk net is the place of the first walk net whose 1 the net
+// reads. Two or more nets with the same label are a group.
 ghost use Rattle.std.specs.Prelude.{◌≡◌, ◌<◌, ◌++◌, ◌==◌, length, map, All, option_map, IfOk, OnOk};
 ghost use Rattle.std.specs.List.{flat_map, range_with_len};
 ghost use Rattle.board_defs.specs.Pins.{data_bits};
@@ -17,7 +18,8 @@ use response_log::Log;
 use std::alloc::{AllocError, Global};
 use tap_defs::board_law::{logs_by_rows, rows_compared, scans_in_turn};
 
-// Returns, for each place of a net, the list of the nets that have this place as their label, in net order.
+// Returns, for each place of a net, the list of the nets that have this place as their label, in net order. There must
+// be one label for each net.
 fn all_members(alloc: Global, nets: &[u32], labels: &[u32]) -> Result<Vec<Items<u32>>, AllocError>
     requires { length labels.now ≡ length nets.now }
     ensures { IfOk result
@@ -31,7 +33,7 @@ fn all_members(alloc: Global, nets: &[u32], labels: &[u32]) -> Result<Vec<Items<
     Ok(lists)
 }
 
-// Adds these nets as a group if there are two or more.
+// Adds these nets as a group if there are two or more. They must be in ascending order.
 fn push_group(groups: &mut Vec<Group>, nets: Vec<u32>) -> Result<(), AllocError>
     requires { Rise nets.items }
     ensures { OnOk result (groups.new.items ≡ groups.old.items ++ where_several nets.items) }
@@ -42,7 +44,7 @@ fn push_group(groups: &mut Vec<Group>, nets: Vec<u32>) -> Result<(), AllocError>
     Ok(())
 }
 
-// Returns the groups among lists of nets, which are the lists with two or more nets.
+// Returns the groups among these lists of nets: the lists with two or more nets. Each list must be in ascending order.
 fn groups_among(alloc: Global, lists: Vec<Items<u32>>) -> Result<Vec<Group>, AllocError>
     requires { All Rise lists.items }
     ensures { IfOk result (λ groups. groups.items ≡ flat_map where_several lists.items) }
@@ -54,7 +56,8 @@ fn groups_among(alloc: Global, lists: Vec<Items<u32>>) -> Result<Vec<Group>, All
     Ok(groups)
 }
 
-// Returns the groups of nets with equal labels. Each label is the place of a net.
+// Returns the groups of nets with equal labels. Each label is the place of a net. The nets must be in ascending order,
+// and there must be one label for each net.
 fn groups_by(alloc: Global, nets: &[u32], labels: &[u32]) -> Result<Vec<Group>, AllocError>
     requires rise { Rise nets.now }
     requires labels { length labels.now ≡ length nets.now }

@@ -1,4 +1,4 @@
-// The label of each walk net: the place of the first walk net whose 1 the net reads.
+// Finds the label of each walk net: the place of the first walk net whose 1 the net reads.
 ghost use Rattle.std.specs.Prelude.{◌≡◌, map, slice_index_or, IfOk, MatchOption};
 ghost use Rattle.std.specs.List.{list_all};
 ghost use Rattle.walk_test.specs.inner.Reading.{first_at, first_in, is_even, label_of, ShowsLabels};
@@ -8,7 +8,7 @@ use crate::tables::NetCells;
 use crate::walk_log::WalkLog;
 use std::alloc::{AllocError, Global};
 
-/// Returns the first compared position of a net.
+/// Returns the first compared position of a net, or 0 if it has none.
 #[inline]
 pub fn first_of(net: &NetCells) -> u32
     ensures { result ≡ first_at net.now }
@@ -19,7 +19,8 @@ pub fn first_of(net: &NetCells) -> u32
     }
 }
 
-/// Returns the first row of a position. `firsts` has the first row of each position, and `none` stands for no row.
+/// Returns the first row in which position `at` reads 1. `firsts` has this row for each position, or `none` if there is
+/// no such row. The result is `none` past the end.
 #[inline]
 pub fn row_at(firsts: &[u32], at: u32, none: u32) -> u32
     ensures { result ≡ slice_index_or firsts.now at none }
@@ -30,7 +31,8 @@ pub fn row_at(firsts: &[u32], at: u32, none: u32) -> u32
     }
 }
 
-// Returns whether all compared positions of a net have the same first row.
+// Returns whether all compared positions of a net have the same first row. `firsts` has the first row in which each
+// position reads 1, or `none` if there is no such row.
 fn is_even(firsts: &[u32], net: &NetCells, none: u32) -> bool
     ensures { result ≡ is_even none firsts.now net.now }
 {
@@ -47,7 +49,8 @@ fn are_even(firsts: &[u32], nets: &[NetCells], none: u32) -> bool
     nets.iter().all(|net| is_even(firsts, net, none))
 }
 
-// Returns the labels of nets, given the first row of each position.
+// Returns the labels of nets. `firsts` has the first row in which each position reads 1, or `none` if there is no such
+// row.
 fn labels_in(
     alloc: Global,
     firsts: &[u32],

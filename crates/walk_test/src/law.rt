@@ -31,7 +31,7 @@ pub fn walk_harmless()
     passes_harmless();
 }
 
-/// `scan_count` of a board's walk is the number of scans of the board's walking test.
+/// The count `count_walk_scans` of a board's walk is the number of scans of the board's walking test.
 pub fn scans_counted()
     ensures { ScansCounted }
 {}

@@ -1,7 +1,8 @@
-//! The walking test. Counting codes show that there is a short. Walking ones show which nets are shorted, for any number of shorts of
-//! any number of nets at once.
+//! The walking test. Counting codes show that there is a short. Walking ones show which nets are shorted, for any
+//! number of shorts of any number of nets at once.
 //!
-//! In each row one walk net carries 1 and all other walk nets carry 0. A net that reads the 1 of another net is in one group with it.
+//! The walk nets are the nets that the test observes. In each row, one walk net carries 1 and all other walk nets carry
+//! 0. A net that reads the 1 of another net is in the same group as that net.
 #![tactic(auto)]
 
 mod digits;

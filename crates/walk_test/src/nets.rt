@@ -1,4 +1,5 @@
-// Makes the parts of a walk: its setting, its nets, their cells, and the rows that all scans share.
+// Makes the parts of a walk, which is the walking test of one board: its setting, its nets, their cells, and the rows
+// that all scans share.
 ghost use Rattle.std.specs.Prelude.{◌≡◌, ◌<◌, ◌^◌, ◌++◌, ◌∷◌, ◌==◌, [], if◌then◌else◌, is_some, map, length, Some, None, slice_get, IfOk, OnOk};
 ghost use Rattle.std.specs.Option.{option_to_list};
 ghost use Rattle.board_defs.specs.Passes.{passes_of};
@@ -27,7 +28,7 @@ fn push_beside(positions: &mut Vec<u32>, reader: ReaderCell, place: u32) -> Resu
     Ok(())
 }
 
-// Returns the positions of the cells that read a pin other than the pin at this place.
+// Returns the positions of the cells in `readers` that read a pin other than the pin at `place`.
 fn positions_beside(
     alloc: Global,
     place: u32,
@@ -133,7 +134,8 @@ fn first_nets(
     }
 }
 
-// Returns the walk nets.
+// Returns the walk nets: the nets of the board that the first of these settings observes. If there is no setting, there
+// are no walk nets.
 fn walk_nets(
     alloc: Global,
     board: &Board,
@@ -163,7 +165,7 @@ fn first_cells(
     }
 }
 
-// Returns the cells of the walk nets.
+// Returns the cells of these walk nets under the first of the settings, or no cells if there is no setting.
 fn walk_cells(
     alloc: Global,
     pins: &NetPins,
@@ -186,9 +188,10 @@ fn blank_rows(alloc: Global, board: &Board) -> Result<WalkRows, AllocError>
     Ok(WalkRows { still, mask })
 }
 
-/// Returns the parts of a walk, made from the pins of its board's nets and the first pass of its test. The rows have room, but are still
-/// empty: `fill_rows` fills them from the plan. All memory other than the plan's is allocated here, so nothing fails after `Walk::of` has
-/// made the plan, and no exit drops a plan.
+/// Returns the parts of a walk, made from the pins of its board's nets and the first pass of its test. `pins` must be
+/// the pins of the board's nets, and the first of `passes` must be the first pass of the board's test. The rows have
+/// room, but are still empty: `fill_rows` fills them from the plan. All memory other than the plan's is allocated here.
+/// So nothing fails after `Walk::of` has made the plan, and no exit drops a plan.
 pub fn walk_parts(
     alloc: Global,
     board: &Board,
@@ -219,8 +222,9 @@ pub fn walk_parts(
     })
 }
 
-/// Fills the rows of a walk from its plan and the cells of its nets. The rows are the first row of the pass with no walk net at 1, and the
-/// compared positions. They must have room for a data scan. If there is no pass, they stay unchanged.
+/// Fills the rows of a walk from its plan and the cells of its nets. `still` gets the first row of the pass with a 0 at
+/// the driver cell of each walk net. `mask` gets a 1 at each position that is compared for this row. Both rows must
+/// have room for a data scan. If the plan has no pass, they stay unchanged.
 pub fn fill_rows(test: &BoardPlan<'_>, cells: &[NetCells], rows: &mut WalkRows)
     requires { HasRoom (data_bits test.now.board) rows.old }
     ensures { AreMade test.now.board test.now.plan cells.now rows.new }
@@ -229,7 +233,7 @@ pub fn fill_rows(test: &BoardPlan<'_>, cells: &[NetCells], rows: &mut WalkRows)
         return;
     }
     let pass = test.pass(0);
-    // `still` takes the expected bits, which nothing needs, until the next call fills it with the row.
+    // `still` has the expected bits, which nothing needs, until the next call fills it with the row.
     pass.fill_compared(0, &mut rows.still, &mut rows.mask);
     pass.fill_shifted(0, &mut rows.still);
     clear_drivers(cells, &mut rows.still);

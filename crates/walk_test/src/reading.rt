@@ -9,8 +9,9 @@ use crate::digits::MaskedRow;
 use crate::labels::{first_of, row_at};
 use crate::walk_log::WalkLog;
 
-// Notes row `j` for each compared position that reads 1 in this row. Returns whether none of these positions had a row before. `firsts` has
-// `none` for a position without a row. If the result is false, some of `firsts` may have changed.
+// Notes row `j` in `firsts` for each compared position that reads 1 in this row. Returns whether none of these
+// positions had a row before. `firsts` has an item for each position, which is `none` for a position without a row. If
+// the result is false, some of `firsts` may have changed.
 fn mark_row(firsts: &mut [u32], row: &MaskedRow<'_>, j: u32, none: u32) -> bool
     requires { length row.now.digits.now ≡ digit_count (length firsts.old) }
     ensures fresh { IsTrue result
@@ -45,7 +46,7 @@ fn start_group(log: &WalkLog<'_>, firsts: &mut [u32], at: u32, j: u32, none: u32
     row.is_one(at as usize) && mark_row(firsts, &row, j, none)
 }
 
-// Returns whether two rows of a log read the same at each compared position.
+// Returns whether two rows of the log read the same at each compared position. `j` and `other` must be rows of the log.
 fn are_same_rows(log: &WalkLog<'_>, j: u32, other: u32) -> bool
     requires row { j < length log.now.log }
     requires other { other < length log.now.log }
@@ -54,8 +55,9 @@ fn are_same_rows(log: &WalkLog<'_>, j: u32, other: u32) -> bool
     log.row(j).is_alike(log.row(other).digits)
 }
 
-// Reads row `j`, in which the net with position `at` carries 1. Returns whether the row agrees with the earlier rows. If the position
-// reads 1 in an earlier row, row `j` must read the same as that row. Otherwise a group starts with the net.
+// Reads row `j` of the log, in which the net with position `at` carries 1. Returns whether the row agrees with the
+// earlier rows. If the position reads 1 in an earlier row, row `j` must read the same as that row. Otherwise a group
+// starts with the net. `firsts` must have an item for each position.
 fn read_row(log: &WalkLog<'_>, firsts: &mut [u32], at: u32, j: u32, none: u32) -> bool
     requires row { j < length log.now.log }
     requires firsts { length firsts.old ≡ length log.now.mask }
@@ -75,8 +77,9 @@ fn read_row(log: &WalkLog<'_>, firsts: &mut [u32], at: u32, j: u32, none: u32) -
     }
 }
 
-/// Reads the rows of all nets, in order. Returns whether each row reads what the earlier rows imply. If so, `firsts` then has, for each
-/// compared position, the first row in which it reads 1. Before the call, each item of `firsts` must be the number of rows.
+/// Reads the rows of all nets, in order. Returns whether each row reads what the earlier rows imply. If so, `firsts`
+/// then has, for each compared position, the first row in which it reads 1. Before the call, `firsts` must have an item
+/// for each position, and each item must be the number of rows.
 pub fn read_rows(log: &WalkLog<'_>, firsts: &mut [u32]) -> bool
     requires firsts { length firsts.old ≡ length log.now.mask }
     requires blank { (at : ℕ)

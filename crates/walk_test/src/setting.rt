@@ -13,7 +13,8 @@ use net_pins::BoardPins;
 use scan_planner::law::useful_planned;
 use std::alloc::{AllocError, Global};
 
-// Returns the control if its cell is cell `num` and the net is pulled to the disable value.
+// Returns the control of a driver with own cell `num`, if the control cell is this cell and the net is pulled to the
+// disable value.
 fn own_switch(part: u32, num: u32, pull: Option<bool>, control: Control) -> Option<Ctl>
     ensures { result ≡ own_switch part num pull (Some control) }
 {
@@ -25,7 +26,8 @@ fn own_switch(part: u32, num: u32, pull: Option<bool>, control: Control) -> Opti
     }
 }
 
-// Returns the control of a pin with this driving entry, on a net with this pull, if the pin is a switching driver.
+// Returns the control of a pin with this driving entry, if the pin is a switching driver. The pin is on a net with this
+// pull that is not guarded.
 fn entry_switch(part: u32, pull: Option<bool>, entry: Cell) -> Option<Ctl>
     ensures { result ≡ entry_switch part pull (Some entry) }
 {
@@ -35,7 +37,8 @@ fn entry_switch(part: u32, pull: Option<bool>, entry: Cell) -> Option<Ctl>
     }
 }
 
-// Returns the control of a pin on a net with this pull, if the pin is a switching driver.
+// Returns the control of this pin, if the pin is a switching driver. The pin is on a net with this pull that is not
+// guarded.
 fn pin_switch(board: &BoardPins<'_>, pull: Option<bool>, pin: &NetPin) -> Option<Ctl>
     ensures { result ≡ pin_switch board.now pull pin.now.at }
 {
@@ -57,7 +60,7 @@ fn add_some(setting: &mut Setting, control: Option<Ctl>) -> Result<(), AllocErro
     }
 }
 
-// Adds the controls of the switching drivers among the pins of a net with this pull.
+// Adds the controls of the switching drivers among these pins of a net. The net has this pull and is not guarded.
 fn add_pins(
     board: &BoardPins<'_>,
     pull: Option<bool>,
@@ -90,7 +93,7 @@ fn add_net(
     add_pins(board, net.pull, net.pins.as_slice(), setting)
 }
 
-// Returns the controls of all switching drivers.
+// Returns the controls of all switching drivers of the board.
 fn switching_of(alloc: Global, board: &BoardPins<'_>) -> Result<Setting, AllocError>
     ensures { IfOk result (λ setting. setting ≡ all_switching board.now board.now.nets) }
 {
@@ -144,7 +147,8 @@ fn only(alloc: Global, setting: Setting) -> Result<Vec<Setting>, AllocError>
     Ok(settings)
 }
 
-/// Returns the passes of a plan for the walk: the walk setting if the board has a pass, and otherwise no pass.
+/// Returns the passes of a plan for the walk: the walk setting if the board has a pass, and otherwise no pass. The
+/// first of `passes` must be the first pass of the board's test.
 pub fn walk_settings(
     alloc: Global,
     board: &BoardPins<'_>,

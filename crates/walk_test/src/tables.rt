@@ -1,4 +1,4 @@
-// The tables of a walk.
+// The tables of a walk, which is the walking test of one board.
 use board_defs::{Items, Setting};
 use bt_bits::Row;
 use scan_planner::Plan;

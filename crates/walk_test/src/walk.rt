@@ -1,4 +1,4 @@
-// A walk and its scans.
+// A walk, which is the walking test of one board, and its scans.
 ghost use Rattle.std.specs.Prelude.{◌≡◌, ◌<◌, slice_get, IfOk};
 ghost use Rattle.board_defs.specs.Passes.{passes_of};
 ghost use Rattle.net_pins.specs.Tables.{AreNetPins};
@@ -38,8 +38,9 @@ impl Model for Walk {
 }
 
 impl Walk {
-    /// Returns the walk of a board, made from the first pass of its test, if there is a pass. Later passes are ignored. If a caller has the
-    /// pins of the board's nets already, it calls `of` instead.
+    /// Returns the walk of a board, made from the first pass of its test, if there is a pass. The first of `passes`
+    /// must be this pass. Later passes are ignored. If a caller has the pins of the board's nets already, it calls `of`
+    /// instead.
     pub fn new(alloc: Global, board: &Board, passes: &[Setting]) -> Result<Walk, AllocError>
         requires { slice_get passes.now 0 ≡ slice_get (passes_of board.now) 0 }
         ensures { IfOk result (λ walk. IsWalkOf board.now walk) }
@@ -97,8 +98,9 @@ impl Walk {
         }
     }
 
-    /// Fills the rows with scan `k` of the walking test, counted from 0, and returns the scan's shape. The walk must be made for `board`,
-    /// `k` must be below the number of scans, and each row must have room for the longer register. Allocates nothing.
+    /// Fills the rows with scan `k` of the walking test, counted from 0, and returns the scan's shape. The walk must be
+    /// made for `board`, and `k` must be below the number of scans. Each row must have room for a scan of instructions
+    /// and for a scan of data. Allocates nothing.
     pub fn fill(&self, board: &Board, k: u64, tdi: &mut Row, tdo: &mut Row, mask: &mut Row) -> Shape
         requires walk { IsWalkOf board.now self.now }
         requires scan { k < count_walk_scans self.now }

@@ -45,7 +45,8 @@ fn compared_row(alloc: Global, nets: &[NetCells], len: u32) -> Result<Row, Alloc
 }
 
 impl<'a> WalkLog<'a> {
-    /// Returns the log with these nets. The log must have a row of `len` bits for each net.
+    /// Returns the log with these nets. The log must have a row of `len` bits for each net. There must be fewer than
+    /// 2^32 nets. Each net must have compared positions, all below `len`.
     pub fn of(
         alloc: Global,
         log: &'a Log,
@@ -62,7 +63,8 @@ impl<'a> WalkLog<'a> {
         Ok(WalkLog { log, nets, mask })
     }
 
-    /// Does nothing. Its contract states the facts about the log.
+    /// Does nothing. The contract states the facts about the log: it has one row for each net, each row is as long as
+    /// the mask, and the mask has a 1 at each compared position of the nets.
     pub fn laws(&self)
         ensures { AreLoggedNets self.now }
     {
@@ -91,7 +93,7 @@ impl<'a> WalkLog<'a> {
         self.mask.len()
     }
 
-    /// Returns row `j` with the mask of the compared bits.
+    /// Returns row `j`, which must be a row of the log, with the mask of the compared bits.
     #[inline]
     pub fn row(&self, j: u32) -> MaskedRow<'_>
         requires { j < length self.now.log }

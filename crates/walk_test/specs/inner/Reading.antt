@@ -8,7 +8,7 @@ use Rattle.response_log.specs.LogRows.{bit_in}
 use Rattle.walk_test.specs.declared.tables.NetCells.{NetCells}
 use Rattle.walk_test.specs.Groups.{group_of}
 
--- both nets are in the same group
+-- two nets are in the same group; each net is given by the number of its group, or `None` if it is in no group
 abbrev pub is_one_group : Option ℕ → Option ℕ → Bool
 is_one_group None other = false
 is_one_group (Some k) other = is_in_short other k
