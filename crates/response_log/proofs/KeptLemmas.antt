@@ -18,14 +18,12 @@ pub length-kept_rows : (len rows : ℕ) (digits : List ℕ) → length (kept_row
 length-kept_rows len zero digits = refl
 length-kept_rows len (suc rows) digits = ap suc (length-kept_rows len rows (drop (digit_count len) digits))
 
--- if the digits are as many as `rows + 1` rows need, the digits after the first row are as many as `rows` rows need
 length-behind : (width rows : ℕ) (digits : List ℕ) → length digits ≡ suc rows * width → length (drop width digits) ≡ rows * width
 length-behind width rows digits sized = omega (arith, length-drop width digits, suc-mul rows width, sized)
 
 has_first : (width rows : ℕ) (digits : List ℕ) → length digits ≡ suc rows * width → width ≤ length digits
 has_first width rows digits sized = omega (arith, suc-mul rows width, sized)
 
--- each kept row has `len` bits
 pub kept_rows-lengths : (len rows : ℕ) (digits : List ℕ) → length digits ≡ rows * digit_count len
     → All (λ bits. length bits ≡ len) (kept_rows len rows digits)
 kept_rows-lengths len zero digits sized = All-nil (λ (bits : List Bool). length bits ≡ len)
@@ -37,7 +35,6 @@ kept_rows-lengths len (suc rows) digits sized =
     (length-take-le (digit_count len) digits (has_first (digit_count len) rows digits sized)))
     (kept_rows-lengths len rows (drop (digit_count len) digits) (length-behind (digit_count len) rows digits sized))
 
--- appending the digits of a row to the kept digits appends the row to the kept rows
 kept_rows-push : (len rows : ℕ) (digits : List ℕ) (bits : List Bool)
     → length digits ≡ rows * digit_count len → length bits ≡ len
     → kept_rows len (suc rows) (digits ++ digits_of bits) ≡ kept_rows len rows digits ++ bits ∷ []
@@ -76,7 +73,6 @@ length-more len rows digits next bits is sized long =
     ∙ suc-mul rows (digit_count len) in
     ap length is ∙ length-append digits (digits_of bits) ∙ omega (arith, more, sized, length-digits_of bits, long)
 
--- if the digits of the appended row have 0 in each bit above the row's bits, `AreWhole` still holds
 whole-push : (len rows : ℕ) (digits bits : List ℕ) → length digits ≡ rows * digit_count len
     → length bits ≡ digit_count len → bits ≡ digits_of (digit_row len bits)
     → AreWhole len rows digits → AreWhole len (suc rows) (digits ++ bits)
@@ -108,7 +104,6 @@ whole-more len rows digits next bits is sized long own whole =
     (subst (AreWhole len (suc rows)) (sym is)
     (whole-push len rows digits bits sized long own whole))
 
--- if `AreWhole` holds, the digits of each row are the digits of the row's bits
 whole-get : (len rows : ℕ) (digits : List ℕ) (row : ℕ) → row < rows → AreWhole len rows digits
     → take (digit_count len) (drop (row * digit_count len) digits)
     ≡ digits_of (digit_row len (take (digit_count len) (drop (row * digit_count len) digits)))
@@ -128,12 +123,10 @@ whole-get len (suc rows) digits (suc row) within whole =
     ≡ digits_of (digit_row len (take (digit_count len) ds))) there
     (whole-get len rows (drop (digit_count len) digits) row (omega arith) whole.1)
 
--- if a row is written over a text at `at` and ends at `end`, the text before `at` and the row together have `end` digits
 put_length : (text row : List ℕ) (at end : ℕ) → end ≡ at + length row → end ≤ length text → length (take at text ++ row) ≡ end
 put_length text row at end ends within =
     omega (arith, length-append (take at text) row, length-take-le at text (omega arith))
 
--- if a row is written over a text at `at`, the text then begins with its old bytes up to `at`, followed by the row
 pub put_before : (text row next : List ℕ) (at end : ℕ)
     → next ≡ take at text ++ (row ++ drop (at + length row) text) → end ≡ at + length row
     → end ≤ length text → take end next ≡ take at text ++ row
@@ -150,7 +143,6 @@ put_behind text row next at end n is ends within behind =
     ∙ ap (λ k. (take at text ++ row) ++ drop k text) (sym ends))
     ∙ drop-append-drop end text (take at text ++ row) n behind (put_length text row at end ends within)
 
--- row `row` of the kept rows has the bits of the digits at the row's place
 kept_rows-get : (len rows : ℕ) (digits : List ℕ) (row : ℕ) → row < rows
     → slice_get (kept_rows len rows digits) row
     ≡ Some (digit_row len (take (digit_count len) (drop (row * digit_count len) digits)))
@@ -164,7 +156,6 @@ kept_rows-get len (suc rows) digits (suc row) within =
     ∙ ap (λ ds. Some (digit_row len (take (digit_count len) ds)))
     (drop-drop (row * digit_count len) (digit_count len) digits ∙ ap (λ n. drop n digits) place)
 
--- bit `i` of the bits of some digits is bit `i % 4` of digit `i / 4`
 bits_of-get : (digits : List ℕ) (i : ℕ) → i < 4 * length digits
     → get_or (bits_of digits) i false ≡ digit_bit (get_or digits (i / 4) 0) (i % 4)
 bits_of-get [] i within = absurd (omega arith)
@@ -186,7 +177,6 @@ row_bits-get len digits at sized within =
     slice_get-get_or (take len (bits_of digits)) at false (omega (arith, long))
     ∙ ap (λ b. Some b) (get_or-take len (bits_of digits) at false within ∙ bits_of-get digits at (omega (arith, sized)))
 
--- the digits of a row are within the kept digits
 row_within : (width rows : ℕ) (digits : List ℕ) (row : ℕ) → length digits ≡ rows * width → row < rows → row * width + width ≤ length digits
 row_within width rows digits row sized within =
     let most : suc row * width ≤ rows * width = mul-le (suc row) width rows width (omega arith) (omega arith) in
@@ -198,7 +188,6 @@ digit_of len rows digits row at sized within in_row =
     let place : at / 4 < digit_count len = omega arith in
     omega (arith, place, row_within (digit_count len) rows digits row sized within)
 
--- bit `at` of row `row` is bit `at % 4` of the kept digit at place `row * digit_count len + at / 4`
 pub kept_bit : (len rows : ℕ) (digits : List ℕ) (row at : ℕ)
     → length digits ≡ rows * digit_count len → row < rows → at < len
     → log_bit (kept_rows len rows digits) row at
@@ -238,7 +227,6 @@ kept_rows-size len rows digits sized = record {
   bits = kept_rows-lengths len rows digits sized;
 }
 
--- the kept digits at the place of a row are the digits of the row
 pub kept_digits : (len rows : ℕ) (digits : List ℕ) (log : List (List Bool)) (row : ℕ)
     → length digits ≡ rows * digit_count len → AreWhole len rows digits
     → kept_rows len rows digits ≡ log → row < length log →

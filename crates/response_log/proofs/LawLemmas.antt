@@ -1,4 +1,4 @@
--- Lemmas which say that a text gives a log if and only if each of its lines with words is a row, and it has the expected number of rows.
+-- Proofs that a text gives a log if and only if each of its lines with words is a row, and it has the expected number of rows.
 use Rattle.std.proofs.Common.{◌≡◌, ◌↔◌, ℕ, ◌≤◌, ◌==◌, Bool, true, false, cond, nat_lt, Option, Some, None, is_some, option_and_then, Ok, Err, List, [], ◌∷◌, ◌++◌, length, map, take, drop, refl, sym, ap, ◌∙◌, arith, length-drop}
 use Rattle.std.specs.Prelude.{filter_map}
 use Rattle.std.specs.List.{cons_option}
@@ -25,7 +25,6 @@ field_there true (Some field) n none = (field, refl)
 field_there true None n none = absurd cc
 field_there false field n none = absurd cc
 
--- if the word of a line has the bits of a row, the line has no offense
 word_right : (len n : ℕ) (word : Option Word) (bits : List Bool)
     → option_and_then (field_bits len) word ≡ Some bits → word_fault len n word ≡ None
 word_right len n None bits is = absurd cc
@@ -88,7 +87,6 @@ counted_said false found rows log is =
     let same : rows ≡ log = cc in
     (refl, same)
 
--- if no line comes after the last expected row, there are at most `rows` lines
 lines_within : (rows : ℕ) (lines : List NumberedLine) → map (λ line. Extra line.number) (drop rows lines) ≡ [] → length lines ≤ rows
 lines_within rows lines none =
     let few : length (drop rows lines) ≡ 0 = sym (length-map (drop rows lines) (λ line. Extra line.number)) ∙ ap length none in

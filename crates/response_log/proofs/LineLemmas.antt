@@ -32,7 +32,6 @@ rows_after-nil rows len lines =
     sym (ap (λ n. first_or (counted rows n (filter_map (bits_of_line len) lines)) (offenses (rows - 0) len lines)) count
     ∙ ap (λ n. first_or (wanted_rows rows len lines) (offenses n len lines)) wanted)
 
--- if the first remaining line has no words, the remaining lines with words are the later lines with words
 pub left_blank : (n : ℕ) (left : Option (List ℕ)) (text line : List ℕ) (more : List (List ℕ))
     → left ≡ Some text → slice_split is_newline text ≡ line ∷ more → words_of line ≡ []
     → lines_left n left ≡ filter has_words (numbered_lines (n + 1) more)
@@ -43,7 +42,6 @@ left_blank n left text line more is split none =
     (record { number = n; words = words } ∷ filter has_words (numbered_lines (n + 1) more))
     (filter has_words (numbered_lines (n + 1) more))) none
 
--- if the first remaining line has words, it is the first of the remaining lines with words
 pub left_words : (n : ℕ) (left : Option (List ℕ)) (text line : List ℕ) (more : List (List ℕ))
     (word : Word) (behind : List ℕ) → left ≡ Some text → slice_split is_newline text ≡ line ∷ more
     → words_of line ≡ word ∷ words_of behind
@@ -55,7 +53,6 @@ left_words n left text line more word behind is split some =
     (record { number = n; words = words } ∷ filter has_words (numbered_lines (n + 1) more))
     (filter has_words (numbered_lines (n + 1) more))) some
 
--- if all expected rows come before a line with words, this line has the fault `Extra`
 pub after_extra : (rows len : ℕ) (log : List (List Bool)) (line : NumberedLine)
     (lines : List NumberedLine) → rows ≤ length log
     → rows_after rows len log (line ∷ lines) ≡ Err (Extra line.number)
@@ -66,7 +63,6 @@ after_extra rows len log line lines full =
     (counted rows (length log + length (line ∷ lines))
     (log ++ filter_map (bits_of_line len) (line ∷ lines))) (offenses n len (line ∷ lines))) none
 
--- if fewer than `rows` rows come before a line, the fault of this line, if it has one, comes before the faults of the later lines
 after_wanted : (rows len : ℕ) (log : List (List Bool)) (line : NumberedLine)
     (lines : List NumberedLine) (fault : Option LogFault) → length log < rows
     → row_fault len line ≡ fault
@@ -120,7 +116,6 @@ after_row rows len log line lines bits wanted none is =
     ((log ++ bits ∷ []) ++ filter_map (bits_of_line len) lines))
     (offenses (rows - n) len lines)) (length_push log bits))
 
--- if there are no lines, there are no offenses
 no_offenses : (n len : ℕ) (answer : LogAnswer) → first_or answer (offenses n len []) ≡ answer
 no_offenses zero len answer = refl
 no_offenses (suc n) len answer = refl
@@ -142,14 +137,12 @@ after_all rows len log all =
     no_offenses (rows - length log) len (counted rows (length log + 0) (log ++ []))
     ∙ counted_all rows (length log + 0) (log ++ []) (omega arith) ∙ ap Ok (append-nil log)
 
--- a line with words is not empty
 pub filled_line : (line : List ℕ) (word : Word) (words : List Word) → words_of line ≡ word ∷ words → 0 < length line
 filled_line [] word words is =
     let none = words_of_empty [] refl in
     cc
 filled_line (b ∷ bs) word words is = omega arith
 
--- if the answer is a fault, and `log_told` of the fault has a value, the answer is an error with this value
 pub fails_by : (fault : LogFault) (said : LogAnswer) → said ≡ Err fault → IfSome (log_told fault) (λ f. said ≡ Err f)
 fails_by (Digit n) said is = is
 fails_by (Length n) said is = is
@@ -171,7 +164,7 @@ pub next_behind : (following : Option ℕ) (from line text kept number : ℕ)
 next_behind None from line text kept number follows before few = tt
 next_behind (Some next) from line text kept number (place, within) before few = (omega arith, within, omega arith)
 
--- each line that is read makes the rest of the text shorter
+-- Each line that is read makes the rest of the text shorter, so the loop ends.
 pub less_left : (text later : List ℕ) (left following : Option ℕ) (from line : ℕ) → left ≡ Some from
     → from ≤ length text → length later ≡ length text
     → IfSome following (Follows from line (length text))
@@ -180,7 +173,6 @@ less_left text later left None from line is within same follows = rw is (omega a
 less_left text later left (Some next) from line is within same (place, inside) =
     rw is (omega (arith, length-drop next later, length-drop from text))
 
--- writing a row over the text before the next line leaves the remaining lines unchanged
 pub same_left : (text row later : List ℕ) (at end : ℕ) (following : Option ℕ) (from line : ℕ)
     → later ≡ take at text ++ (row ++ drop (at + length row) text) → end ≡ at + length row
     → end ≤ from + line → from + line ≤ length text

@@ -1,4 +1,4 @@
--- Lemmas which say that the fault that is reported for a text is the text's first offense.
+-- Proofs that the fault that is reported for a text is the text's first offense.
 use Rattle.std.proofs.Common.{◌≡◌, ℕ, ◌+◌, ◌<◌, ◌≤◌, ◌==◌, Bool, true, false, cond, Option, Some, None, is_some, option_and_then, Ok, Err, List, [], ◌∷◌, ◌++◌, length, refl, sym, ap, ◌∙◌, subst, arith, append_assoc, append-nil, inl, inr, ◌⊎◌}
 use Rattle.std.specs.Prelude.{All}
 use Rattle.std.proofs.lemmas.Bool.{cases_lt}
@@ -59,7 +59,6 @@ module _ (len : ℕ) (line : NumberedLine) where
   offends : Offends len line (row_fault len line)
   offends = by_words line.words refl
 
-  -- if a word gives the bits of a row, it has as many digits as these bits need
   not_sized : (word : Word) (bits : List Bool) (sized : Bool)
       → (length word == digit_count len) ≡ sized
       → cond sized (option_and_then (cut_to len) (text_bits word)) None ≡ Some bits
@@ -76,7 +75,6 @@ module _ (len : ℕ) (line : NumberedLine) where
   row_has_length : IsLogRow len line → HasDigitCount len line
   row_has_length (bits, is) = row_words line.words bits refl is
 
-  -- a line that is a row has no fault
   told_row : (fault : Option LogFault) → Offends len line fault → IsLogRow len line → fault ≡ None
   told_row None says row = refl
   told_row (Some (Length n)) says row = absurd (says.1 (row_has_length row))
@@ -85,7 +83,6 @@ module _ (len : ℕ) (line : NumberedLine) where
   told_row (Some (Extra n)) says row = absurd says
   told_row (Some (Memory e)) says row = absurd says
 
-  -- a line of another length has the fault `Length`
   told_length : (fault : Option LogFault) → Offends len line fault → ¬ HasDigitCount len line → fault ≡ Some (Length line.number)
   told_length None says other = absurd (other (row_has_length says))
   told_length (Some (Length n)) says other = ap (λ m. Some (Length m)) (sym says.0)
@@ -94,7 +91,6 @@ module _ (len : ℕ) (line : NumberedLine) where
   told_length (Some (Extra n)) says other = absurd says
   told_length (Some (Memory e)) says other = absurd says
 
-  -- a line that has the right length but is not a row has the fault `Digit`
   told_digit : (fault : Option LogFault) → Offends len line fault → HasDigitCount len line
       → ¬ IsLogRow len line → fault ≡ Some (Digit line.number)
   told_digit None says long no_row = absurd (no_row says)
@@ -132,7 +128,6 @@ module _ (rows len : ℕ) where
   at_line before line later (Extra n) are few says = absurd says
   at_line before line later (Memory e) are few says = absurd says
 
-  -- if no line is left, a reported fault is the first offense
   at_end : (before : List NumberedLine) (log : List (List Bool)) (fault : LogFault)
       → All (IsLogRow len) before → length log ≡ length before
       → rows_after rows len log [] ≡ Err fault → IsFirst before fault
@@ -209,7 +204,6 @@ module _ (rows len : ℕ) where
             (told_row len line (row_fault len line) (offends len line) row) row.1 ∙ rest.says;
       }
 
-  -- if the line after `found` rows has a fault, this fault is the answer for all lines
   behind : (lines : List NumberedLine) (line : NumberedLine) (found : ℕ) (fault : LogFault)
       → StandsBehind len lines line found → found ≤ rows
       → ((log : List (List Bool)) (later : List NumberedLine) → length log ≡ found

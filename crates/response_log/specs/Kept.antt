@@ -3,7 +3,7 @@ use Rattle.std.specs.Prelude.{◌≡◌, ℕ, zero, suc, ◌/◌, ◌%◌, ◌<�
 use Rattle.bt_bits.specs.Digits.{digit_bit, digits_of, digit_row}
 use Rattle.bt_bits.specs.Hex.{digit_count}
 
--- the rows of `len` bits each that these digits keep
+-- the first `rows` rows of `len` bits each in these digits
 abbrev pub kept_rows : ℕ → ℕ → List ℕ → List (List Bool)
 kept_rows len zero digits = []
 kept_rows len (suc rows) digits = digit_row len (take (digit_count len) digits) ∷ kept_rows len rows (drop (digit_count len) digits)

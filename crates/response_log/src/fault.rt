@@ -14,7 +14,7 @@ pub enum LogFault {
     /// The row has more or fewer digits than its bits need, or the line has more than one word.
     #[error("line {0}: wrong length")]
     Length(u32),
-    /// No line has an offense, but there are only this many rows.
+    /// Each line with words is a row, but there are only this many rows, which is fewer than expected.
     #[error("{0} rows")]
     Missing(u64),
     /// This line has words, but comes after the last expected row. It may contain anything.

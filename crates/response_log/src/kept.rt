@@ -15,7 +15,7 @@ pub(crate) fn digit_count(len: u32) -> usize
     (len as usize + 3) / 4
 }
 
-// Returns `count` digits, from digit `first` on.
+// Returns `count` digits, from digit `first` on. There must be that many digits.
 #[inline]
 fn digits_from(digits: &[u8], first: usize, count: usize) -> &[u8]
     requires { first + count ≤ length digits.now }
@@ -24,8 +24,8 @@ fn digits_from(digits: &[u8], first: usize, count: usize) -> &[u8]
     &digits[first..first + count]
 }
 
-/// A response log. Contracts see it as the list of its rows. Each row is the list of its bits, with the bit that left the chain first
-/// at place 0.
+/// A response log. Its value in contracts is the list of its rows. Each row is the list of its bits, and its first bit
+/// is the bit that left the chain first.
 #[derive(Drop)]
 pub struct Log {
     // The values of the digits of each row, with the lowest digit first, row after row.
@@ -48,7 +48,8 @@ impl Model for Log {
 }
 
 impl Log {
-    // Returns the log of `rows` rows of `len` bits each, whose digits are `digits`.
+    // Returns the log of `rows` rows of `len` bits each. `digits` must have exactly the digits of these rows, and each
+    // bit above the bits of a row must be 0.
     pub(crate) fn of(digits: Vec<u8>, rows: u64, len: u32) -> Log
         requires count { length digits.items ≡ rows * digit_count len }
         requires whole { AreWhole len rows digits.items }
@@ -74,7 +75,8 @@ impl Log {
         self.len
     }
 
-    /// Returns bit `at` of a row. Bit 0 left the chain first.
+    /// Returns bit `at` of a row. Bit 0 left the chain first. The row must be one of the log's rows, and `at` must be
+    /// below the number of its bits.
     #[inline]
     pub fn bit(&self, row: u64, at: u32) -> bool
         requires row { row < length self.now }

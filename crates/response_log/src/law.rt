@@ -1,4 +1,4 @@
-//! Laws of the definitions. Each law is the contract of a function that does nothing.
+//! Laws of the definition of a log. Each law is the contract of a function that does nothing.
 ghost use Rattle.std.specs.Prelude.{◌≡◌, ◌↔◌, ℕ, Bool, List};
 ghost use Rattle.response_log.specs.FirstOffense.{FirstOffenseIsTold, OneOffenseOrLog};
 ghost use Rattle.response_log.specs.LogRows.{log_rows, IsLogOf};
@@ -10,8 +10,8 @@ pub fn rows_are_the_lines()
         → (log_rows text rows len ≡ Ok log) ↔ IsLogOf text rows len log }
 {}
 
-/// The fault that is reported for a text is the text's first offense. A text has exactly one first offense if it is not a log,
-/// and only then.
+/// The fault that is reported for a text is the text's first offense: the fault of the first wrong line, or of missing
+/// rows if no line is wrong. A text has exactly one first offense if it is not a log, and only then.
 pub fn fault_is_the_first_offense()
     ensures told { FirstOffenseIsTold }
     ensures one { OneOffenseOrLog }

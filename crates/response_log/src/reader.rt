@@ -15,10 +15,11 @@ use bt_bits::{HexFault, read_digits};
 use std::alloc::Global;
 use text_lines::{first_line, next_word};
 
-/// Reads a log of `rows` rows with `len` bits each from any bytes. The error is the fault of the first line with an offense. A line that
-/// must be a row gives `Length` if it is not one word with as many digits as the bits need. It gives `Digit` if its length is right, but a
-/// byte is not a digit or a bit above the `len` bits is 1. A line with words gives `Extra` if it comes after the last expected row. If no
-/// line has an offense but there are fewer than `rows` rows, the error is `Missing`.
+/// Reads a log of `rows` rows with `len` bits each from any bytes. There must be fewer than 2^32 bytes. The error is
+/// the fault of the first line with a fault. A line that must be a row gives `Length` if it is not one word with as
+/// many digits as the bits need. It gives `Digit` if its length is right, but a byte is not a digit or a bit above the
+/// `len` bits is 1. A line with words gives `Extra` if it comes after the last expected row. If no line has a fault but
+/// there are fewer than `rows` rows, the error is `Missing`.
 ///
 /// The log takes one byte of memory for each byte of the text.
 pub fn log(alloc: Global, bytes: &[u8], rows: u64, len: u32) -> Result<Log, LogFault>
@@ -79,7 +80,8 @@ fn keep_rows(alloc: Global, text: &mut [u8], rows: u64, len: u32) -> Result<usiz
     Ok(kept)
 }
 
-// Returns the line that begins at a place, and the place of the next line if there is one.
+// Returns the line that begins at place `from`, and the place of the next line if there is one. `from` must not be past
+// the end of the text.
 fn line_at(text: &[u8], from: usize) -> (&[u8], Option<usize>)
     requires { from ≤ length text.now }
     ensures lines { slice_split is_newline (drop from text.now)
@@ -95,7 +97,7 @@ fn line_at(text: &[u8], from: usize) -> (&[u8], Option<usize>)
     }
 }
 
-// Writes the digits of a row over a text, from place `at` on.
+// Writes the digits of a row over a text, from place `at` on. The row must not reach past the end of the text.
 fn put_row(text: &mut [u8], at: usize, row: &[u8])
     requires { at + length row.now ≤ length text.old }
     ensures { text.new ≡ take at text.old ++ (row.now ++ drop (at + length row.now) text.old) }
@@ -103,8 +105,9 @@ fn put_row(text: &mut [u8], at: usize, row: &[u8])
     text[at..at + row.len()].copy_from_slice(row);
 }
 
-// Reads a line that must be a row into `digits`. `word` is the line's first word, and `behind` is the rest of the line. If the
-// word has fewer digits than a row, `digits` may have fewer places than a row.
+// Reads a line that must be a row into `digits`. `word` is the line's first word, and `behind` is the rest of the line.
+// `digits` must have one place for each digit of a row. If the word has fewer digits than a row, `digits` may have
+// fewer places, but not fewer than the word has digits.
 fn read_row(
     line: u32,
     word: &[u8],

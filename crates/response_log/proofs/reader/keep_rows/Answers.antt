@@ -1,4 +1,4 @@
--- The answers for the loop that reads one line at a time.
+-- Proofs for the loop that reads one line at a time.
 use Rattle.std.proofs.Common.{◌≡◌, ◌+◌, ◌*◌, ◌≤◌, ◌++◌, length, take, drop, ap, ◌∙◌, sym, subst, rules, arith, Ok, Err, ℕ}
 use Rattle.std.specs.Prelude.{IfSome}
 use Rattle.std.proofs.lemmas.List.{length-take-le, with_items_is}
