@@ -2,7 +2,6 @@
 use Rattle.std.proofs.Common.{◌≡◌, ℕ, ◌+◌, ◌-◌, ◌≤◌, suc, zero, List, ◌++◌, sym, ◌∙◌, ap, arith, append_assoc, append-nil, add-zero, Result, Ok, Err, is_ok, cond, OnOk}
 use Rattle.board_gen.specs.BoardTexts.{each}
 
--- the texts of `n + 1` numbers are the texts of the first `n` numbers, followed by the text of the last number
 each_more : (f : ℕ → List ℕ) (a n : ℕ) → each f a (n + 1) ≡ each f a n ++ f (a + n)
 each_more f a zero = append-nil (f a) ∙ ap f (sym (add-zero a))
 each_more f a (suc n) =
@@ -37,7 +36,6 @@ appended_more old now new f a i h before step =
 pub appended_all : (old now : List ℕ) (f : ℕ → List ℕ) (a n i : ℕ) → i ≡ a + n → Appended old now f a i → now ≡ old ++ each f a n
 appended_all old now f a n i e h = let all : i - a ≡ n = omega arith in h ∙ ap (λ m. old ++ each f a m) all
 
--- if `a` has been appended to `old`, and appending `b` succeeds, the new text is `old` with `a` and `b` appended
 pub ends_with : {X E : Type 0} (r : Result X E) (old a b : List ℕ) {now new : List ℕ}
     → now ≡ old ++ a → new ≡ cond (is_ok r) (now ++ b) now → OnOk r (new ≡ old ++ (a ++ b))
 ends_with (Ok x) old a b first last = last ∙ ap (λ t. t ++ b) first ∙ append_assoc old a b

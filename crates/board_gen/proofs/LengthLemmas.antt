@@ -7,12 +7,9 @@ use Rattle.std.proofs.lemmas.List.{length-append}
 use Rattle.board_gen.specs.DeviceText.{bsdl_text, device_head, map_line, attributes_text}
 use Rattle.board_gen.specs.BoardTexts.{each, part_line, chain_file_text, pin_word, next_part, ring_line, bus_line, net_text}
 
--- a number below 100,000 has at most five digits
 decimal_short : (n : ℕ) → n < 100000 → length (decimal n) ≤ 5
 decimal_short n below = length-decimal-le 5 n (omega arith) (omega arith) (omega arith)
 
--- if the text of each number below `first + count` has at most `bound` bytes, the texts of the `count` numbers from `first` on have at most
--- `count * bound` bytes
 each_short : (text : ℕ → List ℕ) (bound first count : ℕ)
     → ((n : ℕ) → n < first + count → length (text n) ≤ bound)
     → length (each text first count) ≤ count * bound

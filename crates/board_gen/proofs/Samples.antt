@@ -14,7 +14,7 @@ chain_of_two : chain_file_text 2 ≡ codes "DEVICE U1 GEN -\nDEVICE U2 GEN -\n"
 unfolding chain_file_text digits
 chain_of_two = refl
 
--- The line of a net from part 1 to part 2. The next sample has a net from the last part to the first.
+-- the line of a net from part 1 to part 2
 first_ring : ring_line 2 1 0 ≡ codes "NET R1_0 U1.1 U2.33\n"
 unfolding digits
 first_ring = refl
@@ -49,7 +49,7 @@ nets_of_two : count_by (λ byte. byte == 10) (net_text 2) ≡ 72
 unfolding net_text digits
 nets_of_two = refl
 
--- the line of the last control cell; the next samples are the lines of the first and the last cell of each other kind
+-- the line of the last control cell
 last_control : device_cell_line 4 ≡ codes "\"4 (BC_1, *, control, 1),\" &\n"
 unfolding digits
 last_control = refl

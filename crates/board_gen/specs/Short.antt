@@ -1,4 +1,4 @@
--- The lengths of the texts of a generated board.
+-- The limit on the lengths of the texts of a generated board.
 use Rattle.std.specs.Prelude.{◌≤◌, length}
 use Rattle.board_gen.specs.declared.Made.{Made}
 

@@ -1,4 +1,4 @@
-// Makes the BSDL text of the device.
+// Makes the BSDL text of GEN, the device of all generated boards.
 ghost use Rattle.std.specs.Prelude.{◌≡◌, ◌==◌, ◌+◌, ◌/◌, ◌≤◌, ◌<◌, ◌++◌, codes, decimal, if◌then◌else◌, IfOk, OnOk};
 ghost use Rattle.board_gen.specs.BoardTexts.{each};
 ghost use Rattle.board_gen.specs.DeviceText.{attributes_text, bsdl_text, device_cell_line, cell_text, device_head, map_line, numbers};
@@ -9,7 +9,7 @@ use std::alloc::{AllocError, Global};
 // The number of cells of the boundary register.
 const CELLS: u32 = 77;
 
-// Returns the BSDL text of GEN, the device of all generated boards.
+// Returns the BSDL text of GEN.
 #[tactic(auto, unfolding(crate::specs::DeviceText::bsdl_text))]
 pub fn bsdl(alloc: Global) -> Result<Vec<u8>, AllocError>
     ensures { IfOk result (λ text. text.items ≡ bsdl_text) }
@@ -38,7 +38,7 @@ attribute PIN_MAP of GEN : entity is PHYSICAL_PIN_MAP;
     )
 }
 
-// Appends the pins of the ports.
+// Appends the line of the pin map, which lists the pins of the ports.
 #[tactic(auto, unfolding(crate::specs::DeviceText::map_line))]
 fn push_map(text: &mut Vec<u8>) -> Result<(), AllocError>
     ensures { OnOk result (text.new.items ≡ text.old.items ++ map_line) }
@@ -54,7 +54,8 @@ fn push_map(text: &mut Vec<u8>) -> Result<(), AllocError>
     text.extend_from_slice(b")\";\n")
 }
 
-// Appends `count` consecutive numbers with commas between them. The first number is `first`.
+// Appends `count` consecutive numbers with commas between them. The first number is `first`. `count` must be at least
+// 1, and `first + count` must be below 1000.
 fn push_numbers(text: &mut Vec<u8>, first: u32, count: u32) -> Result<(), AllocError>
     requires some { 1 ≤ count }
     requires few { first + count < 1000 }

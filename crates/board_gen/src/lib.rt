@@ -1,4 +1,5 @@
-//! Boards of 1 to 255 parts, as texts. A ring of nets connects each part to the next part, and all parts share a bus.
+//! Generates boards of 1 to 255 parts, as texts. A ring of nets connects each part to the next part, and all parts
+//! share a bus.
 #![tactic(auto)]
 
 mod board;
