@@ -84,7 +84,7 @@ impl Progress {
         }
     }
 
-    /// Appends the draft as a pass.
+    /// Appends the draft as a pass. It must be a draft for the board of the passes so far.
     fn push(&mut self, alloc: Global, draft: &Draft<'_, '_>) -> Result<(), AllocError>
         requires { IsProgress draft.now.board self.old }
         ensures progress { OnOk result (IsProgress draft.now.board self.new) }
@@ -119,7 +119,7 @@ impl Progress {
         Ok(())
     }
 
-    /// Calls `add_for_driver` for these drivers in turn.
+    /// Calls `add_for_driver` for these drivers in turn. The control of each driver, if it has one, must be useful.
     fn add_for_drivers(
         &mut self,
         alloc: Global,

@@ -175,7 +175,7 @@ impl Pairing {
     }
 
     /// Adds the passes that are needed for net `a` and each later net. The passes for all earlier nets must be there
-    /// already.
+    /// already. There must be at most `most_pins + most_nets * a` passes so far.
     fn add_for_later(
         &mut self,
         alloc: Global,

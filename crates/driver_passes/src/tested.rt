@@ -104,7 +104,8 @@ impl TestedNets {
         Ok(TestedNets { steady, by_control })
     }
 
-    /// Returns the nets that a pass shows if its controls are the useful controls at the places in `held`.
+    /// Returns the nets that a pass shows if its controls are the useful controls at the places in `held`. `self` must
+    /// be made for this board.
     pub fn shown_by(
         &self,
         alloc: Global,

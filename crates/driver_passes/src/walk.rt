@@ -30,7 +30,8 @@ impl<'a, 'b> Draft<'a, 'b> {
     }
 
     /// Goes through the useful controls in order. Adds each control that is in no earlier pass and is together with all
-    /// controls of the draft. So no earlier pass enables the tested drivers of an added control.
+    /// controls of the draft. So no earlier pass enables the tested drivers of an added control. The earlier passes
+    /// must be passes of the draft's board.
     pub fn first_walk(&mut self, earlier: &Progress)
         requires { IsProgress self.old.board earlier.now }
         ensures { self.new ≡ first_walked self.old 0 earlier.now.passes.items }
