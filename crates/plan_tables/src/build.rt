@@ -85,7 +85,8 @@ fn cells_by(
 }
 
 // Returns the driver cells of the passes. `pins` must be the pins of the board's nets, and `quiet` must be the board's
-// quiet row.
+// quiet row. Each pass must be safe, and each of its controls must control a driver of the board. There must be fewer
+// than 2^32 passes.
 fn pass_tables(
     alloc: Global,
     placed: &PlacedBoard,
@@ -116,7 +117,8 @@ fn pass_tables(
 }
 
 // Returns the driver cells of the passes, and the codes of the nets that the passes observe. `pins` must be the pins of
-// the board's nets, and `quiet` must be the board's quiet row.
+// the board's nets, and `quiet` must be the board's quiet row. Each pass must be safe, and each of its controls must
+// control a driver of the board. There must be fewer than 2^32 passes.
 fn pass_parts(
     alloc: Global,
     board: &Board,
@@ -146,8 +148,9 @@ fn pass_parts(
     Ok(PassParts { cells, codes })
 }
 
-// Returns the parts of a plan that this module makes. The pins and the passes are borrowed, so this function never
-// drops them.
+// Returns the parts of a plan that this module makes. `pins` must be the pins of the board's nets. Each pass must be
+// safe, and each of its controls must control a driver of the board. There must be fewer than 2^32 passes. The pins and
+// the passes are borrowed, so this function never drops them.
 fn plan_parts(
     alloc: Global,
     board: &Board,

@@ -43,7 +43,7 @@ fn as_observer(placed: &PlacedBoard, net: u32, driver: NetDriver) -> Observer
 }
 
 // Appends each of these drivers of net `net` as an observer, if some cell in `readers` reads a pin of the net other
-// than the driver's pin.
+// than the driver's pin. The control of each driver, if it has one, must be a cell of its part.
 fn push_observers(
     placed: &PlacedBoard,
     net: u32,

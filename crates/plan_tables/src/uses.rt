@@ -52,8 +52,9 @@ fn run_all(runs: &mut [u32], k: u32, held: &[HeldCell])
     }
 }
 
-// Sets the flags in `held` and extends the runs in `runs` for the controls of these passes. `quiet` must be as long as
-// a data scan. Each control must be a cell of its part.
+// Sets the flags in `held` and extends the runs in `runs` for the controls of these passes. Before the call, each item
+// of `runs` must be at most the run of its position, for example 0. `quiet` must be as long as a data scan. Each
+// control must be a cell of its part. There must be fewer than 2^32 passes.
 fn note_passes(
     alloc: Global,
     placed: &PlacedBoard,
