@@ -100,7 +100,8 @@ impl<'a, 'k> PassWithRows<'a, 'k> {
     }
 
     // Fills the rows with scan `j` of the pass, and returns its shape. The rows must hold the previous scan of the
-    // test, and `before` must be its shape. `j` must be at most the number of rows of a pass.
+    // test, and `before` must be its shape. `j` must be at most the number of rows of a pass. Each row must have room
+    // for a scan of instructions and for a scan of data.
     fn fill(&self, j: u32, before: Shape, rows: &mut ScanRows) -> Shape
         requires row { j ≤ self.now.test.plan.width }
         requires before { FillsRows self.now.test
@@ -128,9 +129,9 @@ impl<'a, 'k> PassWithRows<'a, 'k> {
 
 impl<'a> BoardPlan<'a> {
     /// Fills the rows with scan `k + 1`, which must be a scan of the test, and returns its shape. The rows must hold
-    /// scan `k`, and `before` must be its shape. If scan `k + 1` belongs to a pass, `kept` has the rows of that pass
-    /// after the call. `kept` must have room for a scan of data. If `kept` already has rows of a pass, they must be
-    /// rows of this plan.
+    /// scan `k`, and `before` must be its shape. Each row must have room for a scan of instructions and for a scan of
+    /// data. If scan `k + 1` belongs to a pass, `kept` has the rows of that pass after the call. `kept` must have room
+    /// for a scan of data. If `kept` already has rows of a pass, they must be rows of this plan.
     pub fn fill_next(
         &self,
         k: u64,
