@@ -10,8 +10,8 @@ use crate::labels::{first_of, row_at};
 use crate::walk_log::WalkLog;
 
 // Notes row `j` in `firsts` for each compared position that reads 1 in this row. Returns whether none of these
-// positions had a row before. `firsts` has an item for each position, which is `none` for a position without a row. If
-// the result is false, some of `firsts` may have changed.
+// positions had a row before. `firsts` must have an item for each position of the row, which is `none` for a position
+// without a row. If the result is false, some of `firsts` may have changed.
 fn mark_row(firsts: &mut [u32], row: &MaskedRow<'_>, j: u32, none: u32) -> bool
     requires { length row.now.digits.now ≡ digit_count (length firsts.old) }
     ensures fresh { IsTrue result
@@ -33,8 +33,9 @@ fn mark_row(firsts: &mut [u32], row: &MaskedRow<'_>, j: u32, none: u32) -> bool
     true
 }
 
-// Returns whether a group starts in row `j`: position `at` is compared and reads 1, and no compared position that reads 1 had a row before.
-// If so, all compared positions that read 1 now have row `j`.
+// Returns whether a group starts in row `j` of the log: position `at` is compared and reads 1, and no compared position
+// that reads 1 had a row before. If so, all compared positions that read 1 now have row `j`. `firsts` must have an item
+// for each position.
 fn start_group(log: &WalkLog<'_>, firsts: &mut [u32], at: u32, j: u32, none: u32) -> bool
     requires row { j < length log.now.log }
     requires firsts { length firsts.old ≡ length log.now.mask }
