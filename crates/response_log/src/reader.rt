@@ -43,9 +43,10 @@ pub fn log_of(alloc: Global, mut text: Vec<u8>, rows: u64, len: u32) -> Result<L
     Ok(Log::of(text, rows, len))
 }
 
-// Writes the digits of all rows, row after row, over the text from its start, and returns the number of digits. A row has no more digits
-// than its line has bytes, so the digits never reach a line that is still to be read. Each row is first read into `row`, since the last
-// digit of a word is the first digit of its row.
+// Writes the digits of all rows, row after row, over the text from its start, and returns the number of digits. The
+// text must have fewer than 2^32 bytes. A row has no more digits than its line has bytes, so the digits never reach a
+// line that is still to be read. Each row is first read into `row`, since the last digit of a word is the first digit
+// of its row.
 fn keep_rows(alloc: Global, text: &mut [u8], rows: u64, len: u32) -> Result<usize, LogFault>
     requires { length text.old < 2 ^ 32 }
     ensures read { Gives log_told (λ kept. kept_rows len rows (take kept text.new))
