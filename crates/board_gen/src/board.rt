@@ -11,7 +11,7 @@ const RING: u32 = 32;
 // The number of nets of the bus.
 const BUS: u32 = 8;
 
-// Returns the chain file of a board with `number` parts, at most 255.
+// Returns the chain file of a board with `number` parts. `number` must be at most 255.
 pub fn chain(alloc: Global, number: u32) -> Result<Vec<u8>, AllocError>
     requires { number ≤ 255 }
     ensures { IfOk result (λ text. text.items ≡ chain_file_text number) }
@@ -31,7 +31,7 @@ fn push_part(text: &mut Vec<u8>, part: u32) -> Result<(), AllocError>
     text.extend_from_slice(b" GEN -\n")
 }
 
-// Returns the net file of a board with `number` parts, at most 255.
+// Returns the net file of a board with `number` parts. `number` must be at most 255.
 #[tactic(auto, unfolding(crate::specs::BoardTexts::net_text))]
 pub fn nets(alloc: Global, number: u32) -> Result<Vec<u8>, AllocError>
     requires { number ≤ 255 }
@@ -43,7 +43,7 @@ pub fn nets(alloc: Global, number: u32) -> Result<Vec<u8>, AllocError>
     Ok(text)
 }
 
-// Appends the nets from each part to the next part.
+// Appends the nets from each part to the next part. `number` is the number of parts and must be at most 255.
 fn push_rings(text: &mut Vec<u8>, number: u32) -> Result<(), AllocError>
     requires { number ≤ 255 }
     ensures { OnOk result
@@ -56,7 +56,7 @@ fn push_rings(text: &mut Vec<u8>, number: u32) -> Result<(), AllocError>
     Ok(())
 }
 
-// Appends the nets from part `part`, at most 255, to the next part.
+// Appends the nets from a part to the next part. `part` must be at most 255.
 fn push_ring(text: &mut Vec<u8>, number: u32, part: u32) -> Result<(), AllocError>
     requires { part ≤ 255 }
     ensures { OnOk result (text.new.items ≡ text.old.items ++ each (ring_line number part) 0 32) }
@@ -67,7 +67,8 @@ fn push_ring(text: &mut Vec<u8>, number: u32, part: u32) -> Result<(), AllocErro
     Ok(())
 }
 
-// Appends the line of the net from output `bit`, below 32, of part `part`, at most 255, to the next part.
+// Appends the line of the net from output `bit` of a part to the next part. `part` must be at most 255, and `bit` must
+// be below 32.
 fn push_ring_line(text: &mut Vec<u8>, number: u32, part: u32, bit: u32) -> Result<(), AllocError>
     requires part { part ≤ 255 }
     requires bit { bit < 32 }
@@ -80,7 +81,7 @@ fn push_ring_line(text: &mut Vec<u8>, number: u32, part: u32, bit: u32) -> Resul
     text.extend_from_slice(b"\n")
 }
 
-// Returns the number of the next part. Part 1 comes after the last part.
+// Returns the number of the next part. Part 1 comes after the last part. `part` must be at most 255.
 fn next_part(number: u32, part: u32) -> u32
     requires { part ≤ 255 }
     ensures { result ≡ next_part number part }
@@ -96,7 +97,7 @@ fn push_pin(text: &mut Vec<u8>, part: u32, pin: u32) -> Result<(), AllocError>
     push_numbered(text, b".", pin)
 }
 
-// Appends the nets of the bus.
+// Appends the nets of the bus. `number` is the number of parts and must be at most 255.
 fn push_buses(text: &mut Vec<u8>, number: u32) -> Result<(), AllocError>
     requires { number ≤ 255 }
     ensures { OnOk result (text.new.items ≡ text.old.items ++ each (bus_line number) 0 8) }
@@ -107,7 +108,8 @@ fn push_buses(text: &mut Vec<u8>, number: u32) -> Result<(), AllocError>
     Ok(())
 }
 
-// Appends the line of the net of bit `bit`, below 8, of the bus.
+// Appends the line of the net of a bit of the bus. `number` is the number of parts and must be at most 255. `bit` must
+// be below 8.
 fn push_bus_line(text: &mut Vec<u8>, number: u32, bit: u32) -> Result<(), AllocError>
     requires parts { number ≤ 255 }
     requires bit { bit < 8 }
@@ -118,7 +120,8 @@ fn push_bus_line(text: &mut Vec<u8>, number: u32, bit: u32) -> Result<(), AllocE
     text.extend_from_slice(b"\n")
 }
 
-// Appends, for each part, a blank and the word for the part's pin of bit `bit`, below 8, of the bus.
+// Appends, for each part, a blank and the word for the part's pin of a bit of the bus. `number` is the number of parts
+// and must be at most 255. `bit` must be below 8.
 fn push_bus_pins(text: &mut Vec<u8>, number: u32, bit: u32) -> Result<(), AllocError>
     requires parts { number ≤ 255 }
     requires bit { bit < 8 }
