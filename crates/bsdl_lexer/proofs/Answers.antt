@@ -22,7 +22,7 @@ Walk text place line [] to last_line = (place ≡ to) × (line ≡ last_line)
 Walk text place line (token ∷ tokens) to last_line =
     (step text place line ≡ Ok (Some token)) × Walk text token.«end» token.line tokens to last_line
 
--- if the step after the tokens of a text has this result, `answer` is the answer to the text
+-- `answer` is the answer to a text with these tokens if the step after them has this result
 abbrev pub Ends : Result (Option Token) LexFault → List Token → Result (Unit {0}) LexFault → Type 0
 Ends (Ok None) tokens answer = answer ≡ Ok tt
 Ends (Ok (Some token)) tokens answer = (length tokens ≡ token_limit) × (answer ≡ Err (TooMany token.line))
@@ -44,7 +44,7 @@ pub record OnLine (text : List ℕ) (place line : ℕ) : Type 0 where
 pub at_start : (text : List ℕ) → OnLine text 0 1
 at_start text = record { within = omega arith; line_is = refl }
 
--- the token is the next token of the text after `place`, with a gap or nothing between
+-- the token is the first token of the text at or after `place`
 pub record IsNext (text : List ℕ) (place : ℕ) (token : Token) : Type 0 where
   pub gap : Separates text place token.start
   pub is : IsToken text token
@@ -74,7 +74,6 @@ is_next text place line token on e = go (step text place line) e (step_finds tex
     go _ e (open_text at s h) = cc
     go _ e (no_token at s h) = cc
 
--- if a walk begins at a place that is on its line, it ends at a place that is on its last line
 pub walk_line : (text : List ℕ) (tokens : List Token) (place line to last_line : ℕ)
     → OnLine text place line → Walk text place line tokens to last_line → OnLine text to last_line
 walk_line text [] place line to last_line on w = subst (λ n. OnLine text to n) w.1 (subst (λ n. OnLine text n line) w.0 on)
@@ -93,14 +92,13 @@ walk_stands text (token ∷ tokens) place line to last_line stop on w s =
       walk_stands text tokens token.«end» token.line to last_line stop n.after w.1 s,
     )
 
--- if the step after a walk finds a token, the walk followed by this token is a walk
 pub walk_on : (text : List ℕ) (tokens : List Token) (place line to last_line : ℕ) (token : Token)
     → Walk text place line tokens to last_line → step text to last_line ≡ Ok (Some token)
     → Walk text place line (tokens ++ token ∷ []) token.«end» token.line
 walk_on text [] place line to last_line token w e = (ap (λ n. step text n line) w.0 ∙ ap (step text to) w.1 ∙ e, (refl, refl))
 walk_on text (first ∷ tokens) place line to last_line token w e = (w.0, walk_on text tokens first.«end» first.line to last_line token w.1 e)
 
--- a walk finds these tokens, and only a gap is between its end and `stop`
+-- a walk from `place` finds these tokens, and there is only a gap between its end `to` and `stop`
 record Walked (text : List ℕ) (place line : ℕ) (tokens : List Token) (stop : ℕ) : Type 0 where
   to : ℕ
   last_line : ℕ
@@ -125,7 +123,6 @@ walked text (token ∷ tokens) place line stop l h =
           k.line_is;
     }
 
--- the tokens and the answer that steps find are an answer to the text
 pub lexed_answer : (text : List ℕ) (tokens : List Token) (answer : Result (Unit {0}) LexFault)
     → Lexed text tokens answer → IsLexAnswer text tokens answer
 lexed_answer text tokens answer h = go (step text h.to h.line) (step_finds text h.to h.line on.within on.line_is) h.ends
@@ -157,8 +154,6 @@ lexed_answer text tokens answer h = go (step text h.to h.line) (step_finds text 
     go _ (open_text at s k) e = subst (IsLexAnswer text tokens) (sym e) (at, stops at s, k)
     go _ (no_token at s k) e = subst (IsLexAnswer text tokens) (sym e) (at, stops at s, k)
 
--- if a walk finds the tokens of an answer and the next step ends with the answer, steps find the
--- answer
 ends_with : (text : List ℕ) (tokens : List Token) (answer : Result (Unit {0}) LexFault) (stop : ℕ)
     → length tokens ≤ token_limit → (w : Walked text 0 1 tokens stop)
     → (r : Result (Option Token) LexFault) → step text w.to w.last_line ≡ r → Ends r tokens answer
@@ -176,7 +171,6 @@ ends_with text tokens answer stop limit w r e ends =
 from_start : (text : List ℕ) (tokens : List Token) (stop : ℕ) → Stand text 0 tokens stop → Walked text 0 1 tokens stop
 from_start text tokens stop h = walked text tokens 0 1 stop refl h
 
--- conversely, steps find each answer to the text
 pub answer_lexed : (text : List ℕ) (tokens : List Token) (answer : Result (Unit {0}) LexFault)
     → IsLexAnswer text tokens answer → Lexed text tokens answer
 answer_lexed text tokens (Ok done) h =
@@ -234,7 +228,7 @@ compared text (t ∷ ts) (t' ∷ ts') place start_line to line to' line' w w' =
     let others : Walk text t.«end» t.line ts' to' line' = subst (λ (x : Token). Walk text x.«end» x.line ts' to' line') (sym is) w'.1 in
     longer text t t' ts ts' to line to' line' is (compared text ts ts' t.«end» t.line to line to' line' w.1 others)
 
--- if the step after the tokens of an answer finds a token, the number of the tokens is the limit
+-- a token can follow the tokens of an answer only if the answer is `TooMany`
 full_there : (tokens : List Token) (answer : Result (Unit {0}) LexFault) (token : Token)
     (r : Result (Option Token) LexFault) → r ≡ Ok (Some token) → Ends r tokens answer
     → length tokens ≡ token_limit
@@ -271,7 +265,6 @@ one_lexed text tokens others answer answer' h h' (second_stops token s l) =
     let limit : length tokens ≤ token_limit = h.limit in
     omega arith)
 
--- a text has at most one answer
 pub one_answer : (text : List ℕ) (tokens others : List Token)
     (answer other : Result (Unit {0}) LexFault) → IsLexAnswer text tokens answer
     → IsLexAnswer text others other → (tokens ≡ others) × (answer ≡ other)
@@ -354,12 +347,9 @@ are_first text tokens to line w =
     let k = completed (suc (length text)) text tokens to line w on (omega arith) in
     record { more = k.0; answer = k.1; whole = lexed_answer text (tokens ++ k.0) k.1 k.2 }
 
--- every text has an answer
 pub some_answer : (text : List ℕ) → (tokens : List Token) × (answer : Result (Unit {0}) LexFault) × IsLexAnswer text tokens answer
 some_answer text = let k = are_first text [] 0 1 (record { walk = (refl, refl); limit = omega arith }) in (k.more, k.answer, k.whole)
 
--- if the step after a walk has the result `r`, and `r` ends the tokens of the walk with `answer`,
--- this is an answer to the text
 ended : (text : List ℕ) (tokens : List Token) (to line : ℕ) (answer : Result (Unit {0}) LexFault)
     (r : Result (Option Token) LexFault) → WalksTo text tokens to line → step text to line ≡ r
     → Ends r tokens answer → IsLexAnswer text tokens answer
@@ -396,7 +386,6 @@ pub ends_whole : (text : List ℕ) (tokens : List Token) (to line : ℕ) → Wal
     → Ok None ≡ step text to line → IsLexAnswer text tokens (Ok tt)
 ends_whole text tokens to line w e = ended text tokens to line (Ok tt) (Ok None) w (sym e) refl
 
--- if a function returns an answer to a text, it is the only answer
 pub only_answer : (text : List ℕ) (tokens : List Token) (result : Result (Unit {0}) LexFault)
     → Gives lex_told (λ done. done) (IsLexAnswer text tokens) result
     → Gives lex_told (λ done. done)
@@ -407,7 +396,6 @@ only_answer text tokens (Err fault) h =
     (λ f is others other k. one_answer text others tokens other (Err f) k is)
 only_answer text tokens (Ok done) h = λ others other k. one_answer text others tokens other (Ok done) k h
 
--- the number of a place's line is at most one more than the place
 pub few_lines : (text : List ℕ) (place line : ℕ) → OnLine text place line → line ≤ 1 + place
 few_lines text place line on =
     let count : line_feeds (take place text)
@@ -417,7 +405,6 @@ few_lines text place line on =
     let here : line ≡ 1 + line_feeds (take place text) = on.line_is in
     omega arith
 
--- if the step after a walk finds a token, it is the next token of the text
 pub next_of_walk : (text : List ℕ) (tokens : List Token) (to line : ℕ) (token : Token)
     → WalksTo text tokens to line → Ok (Some token) ≡ step text to line → IsNext text to token
 next_of_walk text tokens to line token w e = is_next text to line token (walk_line text tokens 0 1 to line (at_start text) w.walk) (sym e)

@@ -15,8 +15,8 @@ chosen : {A : Type 0} (b : Bool) (x y z : A) → cond b x y ≡ z → ((b ≡ tr
 chosen true x y z e = inl (refl, e)
 chosen false x y z e = inr (refl, e)
 
--- there are at least `len` bytes, the first `len` of them have the form of this kind, and no
--- comment begins here
+-- a token of this kind begins at the front: the first `len` bytes, at least one, have its form, and
+-- no comment begins here
 pub record IsFront (left : List ℕ) (kind : TokenKind) (len : ℕ) : Type 0 where
   pub form : HasForm kind (take len left)
   pub within : len ≤ length left
@@ -28,7 +28,6 @@ digits_front [] n e h = absurd (let k : n ≡ 0 = e in grind (arith, nat_tests))
 digits_front (x ∷ xs) zero e h = cc
 digits_front (x ∷ xs) (suc n) e h = subst (λ m. list_all is_ascii_digit (take m (x ∷ xs)) ≡ true) (sym e) (passes is_ascii_digit (x ∷ xs))
 
--- the longest fraction after a point is empty or has the form of a fraction
 fraction_digits : (others : List ℕ) (first : ℕ) (b : Bool)
     → nat_eq (prefix_len is_ascii_digit others) 0 ≡ b → first ≡ point
     → IsFraction (take (cond b 0 (1 + prefix_len is_ascii_digit others)) (first ∷ others))
@@ -44,12 +43,10 @@ fraction_first first others true e =
     (grind (arith, nat_tests))
 fraction_first first others false e = tt
 
--- the first `fraction_len` bytes are empty or have the form of a fraction
 fraction_front : (bytes : List ℕ) → IsFraction (take (fraction_len bytes) bytes)
 fraction_front [] = tt
 fraction_front (first ∷ others) = fraction_first first others (nat_eq first point) refl
 
--- the longest exponent after a letter and a sign is empty or has the form of an exponent
 exponent_signed : (e s : ℕ) (others : List ℕ) (b : Bool)
     → nat_eq (prefix_len is_ascii_digit others) 0 ≡ b → is_exponent_letter e ≡ true
     → is_sign s ≡ true
@@ -82,7 +79,6 @@ exponent_first e others false h = tt
 exponent_first e [] true h = tt
 exponent_first e (s ∷ others) true h = exponent_sign e s others (is_sign s) refl h
 
--- the first `exponent_len` bytes are empty or have the form of an exponent
 exponent_front : (bytes : List ℕ) → IsExponent (take (exponent_len bytes) bytes)
 exponent_front [] = tt
 exponent_front (e ∷ others) = exponent_first e others (is_exponent_letter e) refl
@@ -179,8 +175,6 @@ same_token k kind n len e =
     let same : first ≡ second = cc in
     (ap (λ (x : TokenKind × ℕ). x.0) same, ap (λ (x : TokenKind × ℕ). x.1) same)
 
--- if the kind `k` and the length `n` are equal to `kind` and `len`, and `IsFront` is true of `k`
--- and `n`, then `IsFront` is true of `kind` and `len`
 same_front : (left : List ℕ) (k kind : TokenKind) (n len : ℕ) → IsFront left k n
     → some_token k n ≡ some_token kind len → IsFront left kind len
 same_front left k kind n len h e =
@@ -216,8 +210,6 @@ closed_front others kind len n is (Some byte) at plain e = elim
           no_comment = plain;
         }
 
--- if `token_at` finds a token of this kind and length, the first `len` bytes have the form of the
--- kind
 pub found_front : (left : List ℕ) (kind : TokenKind) (len : ℕ) → token_at left ≡ some_token kind len → IsFront left kind len
 found_front [] kind len e = cc
 found_front (first ∷ others) kind len e = elim (chosen (begins_comment (first ∷ others)) _ _ _ e) [

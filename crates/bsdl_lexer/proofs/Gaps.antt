@@ -1,5 +1,5 @@
--- The gap that `gap_len` finds at the front is a gap, and it is the only one behind which no gap
--- begins.
+-- `gap_len` is the length of a gap at the front after which no other gap begins. Every gap at the
+-- front with this property has this length.
 use Rattle.std.proofs.Common.{◌≡◌, ℕ, suc, ◌+◌, ◌≤◌, List, [], ◌∷◌, ◌++◌, length, take, drop, Bool, true, false, ◌&&◌, ◌||◌, not, ◌==◌, cond, IsTrue, ◌⊎◌, inl, inr, refl, sym, ◌∙◌, ap, subst, arith, append_assoc, append-nil, length-append, nat_eq}
 use Rattle.std.proofs.lemmas.Bool.Decides.{nat_tests}
 use Rattle.std.specs.List.{list_all}
@@ -22,7 +22,6 @@ abbrev GapOrRest : Bool → List ℕ → List ℕ → Type 0
 GapOrRest true more rest = CommentRest more rest
 GapOrRest false more rest = IsGap more rest
 
--- two dashes followed by the rest of a comment are a gap
 from_rest : (more rest : List ℕ) → CommentRest more rest → IsGap more (dash ∷ dash ∷ rest)
 from_rest more rest h = elim h.ends [
   | inl k ↦ (let same : rest ≡ h.words = h.split ∙ ap (λ xs. h.words ++ xs) k.0 ∙ append-nil h.words in
@@ -31,8 +30,6 @@ from_rest more rest h = elim h.ends [
       subst (λ xs. IsGap more (dash ∷ dash ∷ xs)) (sym same) (comment h.words k.0 h.free k.2))
 ]
 
--- if the rest of a comment begins with a dash, the bytes after the dash are also the rest of a
--- comment
 behind_dash : (more rest : List ℕ) → CommentRest more (dash ∷ rest) → CommentRest more rest
 behind_dash more rest h = go h.words h.split h.free
   where
@@ -126,8 +123,6 @@ fronts (first ∷ others) false = front_false first others (fronts others) (is_b
 pub gap_front : (bytes : List ℕ) → IsGap (drop (gap_len false bytes) bytes) (take (gap_len false bytes) bytes)
 gap_front bytes = fronts bytes false
 
--- if no gap begins behind the gap that is found, in or outside a comment, the same is true with one
--- more byte of a comment in front
 ends_gap_true : (others : List ℕ)
     → ((b : Bool) → begins_gap (drop (gap_len b others) others) ≡ false) → (b : Bool)
     → begins_gap (drop (gap_len (cond b false true) others) others) ≡ false
@@ -150,7 +145,6 @@ ends_gaps (first ∷ others) false =
     ends_gap_false first others (ends_gaps others) (is_bsdl_blank first)
     (begins_comment (first ∷ others)) refl refl
 
--- no gap begins behind the gap that is found
 pub ends_gap : (bytes : List ℕ) → begins_gap (drop (gap_len false bytes) bytes) ≡ false
 ends_gap bytes = ends_gaps bytes false
 
@@ -176,7 +170,6 @@ gap_len-le-any (first ∷ others) false =
 pub gap_len-le : (bytes : List ℕ) → gap_len false bytes ≤ length bytes
 gap_len-le bytes = gap_len-le-any bytes false
 
--- if no gap begins at the front, the gap that is found there has length 0
 no_gap : (more : List ℕ) → begins_gap more ≡ false → gap_len false more ≡ 0
 no_gap [] e = refl
 no_gap (first ∷ others) e = cases (is_bsdl_blank first) (begins_comment (first ∷ others)) e
@@ -197,7 +190,6 @@ through_words (w ∷ words) tail h = go (nat_eq w line_feed) h (λ k. through_wo
     go true h f = cc
     go false h f = let k : gap_len true (words ++ tail) ≡ length words + gap_len true tail = f h in omega arith
 
--- if no gap begins behind a gap, its length is the length of the gap that is found
 pub only_gap : (more gap : List ℕ) → IsGap more gap → begins_gap more ≡ false → gap_len false (gap ++ more) ≡ length gap
 only_gap more _ nothing e = no_gap more e
 only_gap more _ (blank byte gap h k) e = rw h (ap suc (only_gap more gap k e))

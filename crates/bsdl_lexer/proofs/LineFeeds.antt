@@ -16,7 +16,6 @@ line_feeds-append xs ys = sum_by-append (λ byte. cond (nat_eq byte line_feed) 1
 line_feeds-cons : (x : ℕ) (xs : List ℕ) → line_feeds (x ∷ xs) ≡ cond (nat_eq x line_feed) 1 0 + line_feeds xs
 line_feeds-cons x xs = sum_by-cons (λ byte. cond (nat_eq byte line_feed) 1 0) x xs
 
--- if a byte passes a test that a line feed does not pass, the byte is not a line feed
 other_byte : (p : ℕ → Bool) (x : ℕ) → p line_feed ≡ false → p x ≡ true → nat_eq x line_feed ≡ false
 other_byte p x n h = go (nat_eq x line_feed) refl
   where
@@ -56,7 +55,6 @@ exponent_none : (xs : List ℕ) → IsExponent xs → line_feeds xs ≡ 0
 exponent_none [] h = refl
 exponent_none (x ∷ xs) h = none_at is_exponent_letter x xs refl h.0 (signed_none xs h.1)
 
--- the bytes of a token have no line feed
 pub no_line_feeds : (kind : TokenKind) (bytes : List ℕ) → HasForm kind bytes → line_feeds bytes ≡ 0
 no_line_feeds Word [] h = absurd h
 no_line_feeds Word (x ∷ xs) h = none_at is_ascii_alphabetic x xs refl h.0 (none_in is_word_byte xs refl h.1)

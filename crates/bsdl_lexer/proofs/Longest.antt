@@ -9,8 +9,6 @@ use Rattle.bsdl_lexer.specs.declared.token.TokenKind.TheVariants.{Word, Number, 
 use Rattle.bsdl_lexer.specs.Forms.{IsWord, IsDigits, IsFraction, IsSigned, IsExponent, IsNumber, IsQuoted, HasForm, is_word_byte, is_text_byte, is_mark_byte, is_exponent_letter, is_sign, begins_comment, quote, point}
 use Rattle.bsdl_lexer.specs.inner.Lengths.{with_digits, fraction_len, signed_len, exponent_len, number_len, closed_len, token_at}
 
--- if all bytes of `xs` pass a test, the longest front of `xs ++ ys` that passes is at least as long
--- as `xs`
 at_least : (p : ℕ → Bool) (xs ys : List ℕ) → list_all p xs ≡ true → length xs ≤ prefix_len p (xs ++ ys)
 at_least p [] ys h = omega arith
 at_least p (x ∷ xs) ys h =
@@ -18,34 +16,28 @@ at_least p (x ∷ xs) ys h =
     let others : length xs ≤ prefix_len p (xs ++ ys) = at_least p xs ys k.1 in
     rw k.0 (omega arith)
 
--- if all bytes of `xs` pass a test and the next byte does not, the longest front that passes is as
--- long as `xs`
 exactly : (p : ℕ → Bool) (xs : List ℕ) (y : ℕ) (ys : List ℕ) → list_all p xs ≡ true → p y ≡ false → prefix_len p (xs ++ y ∷ ys) ≡ length xs
 exactly p [] y ys h n = rw n
 exactly p (x ∷ xs) y ys h n =
     let k = and_parts (p x) (list_all p xs) h in
     rw (k.0, exactly p xs y ys k.1 n) (omega arith)
 
--- the step for one byte
 passes_more : (p : ℕ → Bool) (x : ℕ) (xs : List ℕ) (b : Bool) → p x ≡ b
     → list_all p (take (prefix_len p xs) xs) ≡ true
     → list_all p (take (cond b (1 + prefix_len p xs) 0) (x ∷ xs)) ≡ true
 passes_more p x xs true e h = let more : 1 + prefix_len p xs ≡ suc (prefix_len p xs) = omega arith in rw more (rw e h)
 passes_more p x xs false e h = refl
 
--- all bytes of the longest front that passes a test pass it
 pub passes : (p : ℕ → Bool) (xs : List ℕ) → list_all p (take (prefix_len p xs) xs) ≡ true
 passes p [] = refl
 passes p (x ∷ xs) = passes_more p x xs (p x) refl (passes p xs)
 
--- if `n` is at least 1 and at most the number of digits, `front + n` is at most `with_digits`
 more_digits : (front n len : ℕ) → 0 < n → n ≤ len → front + n ≤ cond (nat_eq len 0) 0 (front + len)
 more_digits front n len some le = grind (arith, nat_tests)
 
 same_digits : (front n : ℕ) → 0 < n → cond (nat_eq n 0) 0 (front + n) ≡ front + n
 same_digits front n some = grind (arith, nat_tests)
 
--- `with_digits` is at least `front` plus the number of any digits at the front
 digits_at_least : (front : ℕ) (xs ys : List ℕ) → IsDigits xs → front + length xs ≤ with_digits front (xs ++ ys)
 digits_at_least front [] ys h = absurd h
 digits_at_least front (x ∷ xs) ys h =
@@ -152,11 +144,9 @@ number_at_least xs more h =
     let P : List ℕ → Type 0 = λ ys. length xs ≤ number_len ys in
     subst P (sym e) (omega arith)
 
--- a digit is not a letter
 letter_no_digit_quote : (b : ℕ) → is_ascii_digit b ≡ true → is_ascii_alphabetic b ≡ false
 letter_no_digit_quote b h = grind (arith, nat_tests)
 
--- a mark is neither a letter nor a digit nor a quote
 mark_kinds : (b : ℕ) → is_mark_byte b ≡ true → (is_ascii_alphabetic b ≡ false) × (is_ascii_digit b ≡ false) × (nat_eq b quote ≡ false)
 mark_kinds b h = (grind (arith, nat_tests), grind (arith, nat_tests), grind (arith, nat_tests))
 
@@ -223,7 +213,6 @@ text_within first others more h =
     not_comment [] e = e
     not_comment (y ∷ ys) e = e
 
--- no token is empty
 pub no_empty : (kind : TokenKind) → HasForm kind [] → ⊥
 no_empty Word h = h
 no_empty Number h = empty h.whole h.parts h.digits

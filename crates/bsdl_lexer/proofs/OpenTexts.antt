@@ -1,4 +1,4 @@
--- At a quote begins either a string token or an open string.
+-- Either a string token or a string that is not closed begins at a quote.
 use Rattle.std.proofs.Common.{◌≡◌, ℕ, suc, List, [], ◌∷◌, ◌++◌, Bool, true, false, cond, Option, Some, None, ◌⊎◌, inl, inr, refl, sym, ◌∙◌, ap, arith, nat_eq, slice_get, IsTrue}
 use Rattle.std.proofs.lemmas.Bool.Decides.{nat_tests}
 use Rattle.std.specs.List.{prefix_len, list_all}
@@ -9,8 +9,7 @@ use Rattle.bsdl_lexer.specs.Forms.{begins_gap, is_text_byte, line_feed, carriage
 use Rattle.bsdl_lexer.specs.Answer.{BeginsOpenText, EndsOpen}
 use Rattle.bsdl_lexer.specs.inner.Lengths.{token_at, closed_len}
 
--- the byte behind the longest front of bytes that a string may have, or None if there is no such
--- byte
+-- the byte after the longest prefix of bytes that a string may have, or None if the list ends there
 byte_behind : List ℕ → Option ℕ
 byte_behind others = slice_get others (prefix_len is_text_byte others)
 
@@ -107,13 +106,11 @@ unfolding byte_behind
 quote_at [] = refl
 quote_at (x ∷ xs) = refl
 
--- if no token begins at a quote, an open string begins there
 pub begins_open : (others : List ℕ) → token_at (quote ∷ others) ≡ None → BeginsOpenText (quote ∷ others)
 begins_open others e =
     let k : Open others = open_front others (closed (byte_behind others) (prefix_len is_text_byte others) (sym (quote_at others) ∙ e)) in
     record { inner = k.inner; more = k.more; parts = ap (λ xs. quote ∷ xs) k.parts; allowed = k.allowed; is_open = k.is_open }
 
--- no token begins at an open string
 pub open_no_token : (rest : List ℕ) → BeginsOpenText rest → token_at rest ≡ None
 open_no_token rest h =
     rw h.parts

@@ -1,5 +1,4 @@
--- Gaps and tokens at places of a text are the gaps and tokens that `gap_len` and `token_at` find
--- there.
+-- `gap_len` and `token_at` find the gaps and tokens that a text has at its places.
 use Rattle.std.proofs.Common.{◌≡◌, ℕ, zero, suc, ◌+◌, ◌-◌, ◌<◌, ◌≤◌, List, [], ◌∷◌, ◌++◌, length, take, drop, true, false, refl, sym, ◌∙◌, ap, subst, arith, length-drop, ◌⊎◌, inl, inr}
 use Rattle.std.proofs.lemmas.Bool.{cases_lt}
 use Rattle.std.proofs.lemmas.Bool.Decides.{nat_tests}
@@ -21,14 +20,12 @@ use Rattle.bsdl_lexer.proofs.Gaps.{gap_front, only_gap, gap_len-le}
 pub drop-sum : (a b : ℕ) (xs : List ℕ) → drop (a + b) xs ≡ drop b (drop a xs)
 drop-sum a b xs = sym (drop-drop b a xs)
 
--- the bytes of the text from `from` to `from + n` are the first `n` bytes from place `from` on
 pub range_from : (text : List ℕ) (from n : ℕ) → slice_range text from (from + n) ≡ take n (drop from text)
 range_from text from n = let e : from + n - from ≡ n = omega arith in ap (λ m. take m (drop from text)) e
 
 pub length-range : (text : List ℕ) (from to : ℕ) → to ≤ length text → length (slice_range text from to) ≡ to - from
 length-range text from to le = length-take-le (to - from) (drop from text) (omega (arith, length-drop from text))
 
--- the bytes that `gap_len` finds at a place are a gap of the text
 pub separates_found : (text : List ℕ) (from : ℕ) → from ≤ length text → Separates text from (from + gap_len false (drop from text))
 separates_found text from le =
     let left : List ℕ = drop from text in
@@ -41,7 +38,6 @@ separates_found text from le =
           (subst (λ xs. IsGap xs (take n left)) (sym (drop-sum from n text)) (gap_front left));
     }
 
--- if a gap leads from `from` to `to`, and no gap begins at `to`, `gap_len` finds this gap
 pub separates_to : (text : List ℕ) (from to : ℕ) → Separates text from to
     → begins_gap (drop to text) ≡ false → from + gap_len false (drop from text) ≡ to
 separates_to text from to h none =
@@ -52,7 +48,6 @@ separates_to text from to h none =
     let long : length (slice_range text from to) ≡ to - from = length-range text from to h.within in
     omega (arith, h.order, len, long)
 
--- a letter is not a blank
 letter_no_blank : (b : ℕ) → is_ascii_alphabetic b ≡ true → is_bsdl_blank b ≡ false
 letter_no_blank b h = grind (arith, nat_tests)
 
@@ -62,7 +57,6 @@ digit_no_blank b h = grind (arith, nat_tests)
 mark_no_blank : (b : ℕ) → is_mark_byte b ≡ true → is_bsdl_blank b ≡ false
 mark_no_blank b h = grind (arith, nat_tests)
 
--- the first byte of a token is not a blank
 first_no_blank : (kind : TokenKind) (first : ℕ) (others : List ℕ) → HasForm kind (first ∷ others) → is_bsdl_blank first ≡ false
 first_no_blank Word first others h = letter_no_blank first h.0
 first_no_blank Number first others h = digit_no_blank first (number_first first others h)
@@ -70,14 +64,11 @@ first_no_blank Text first others h = let same : first ≡ quote = cc h.quoted in
 first_no_blank Mark first [] h = mark_no_blank first h
 first_no_blank Mark first (second ∷ others) h = absurd h
 
--- no gap begins where a token begins
 pub no_gap : (kind : TokenKind) (n : ℕ) (rest : List ℕ) → HasForm kind (take n rest) → begins_comment rest ≡ false → begins_gap rest ≡ false
 no_gap kind n [] h c = refl
 no_gap kind zero (first ∷ others) h c = absurd (no_empty kind h)
 no_gap kind (suc n) (first ∷ others) h c = rw (first_no_blank kind first (take n others) h, c)
 
--- if a range has the form of a token, the token that `token_at` finds at its start is at least as
--- long
 pub range_within : (text : List ℕ) (start to : ℕ) (kind : TokenKind) → start ≤ to → to ≤ length text
     → HasForm kind (slice_range text start to) → begins_comment (drop start text) ≡ false
     → IsWithin (drop start text) kind (to - start)
@@ -98,7 +89,6 @@ some_bytes text start to kind form = go (cases_lt start to)
         let e : to - start ≡ 0 = omega arith in
         absurd (no_empty kind (subst (λ n. HasForm kind (take n (drop start text))) e form))
 
--- `token_at` finds each token of a text at the token's start
 pub token_is_found : (text : List ℕ) (token : Token) → IsToken text token
     → token_at (drop token.start text) ≡ some_token token.kind (token.«end» - token.start)
 token_is_found text token h =
@@ -120,7 +110,6 @@ token_is_found text token h =
         (subst (HasForm token.kind) (sym (range_from text token.start len)) form))
     exact {len} (inr le) fits form ge some = omega arith
 
--- each token that `token_at` finds is a token of the text
 pub found_is_token : (text : List ℕ) (start line : ℕ) (kind : TokenKind) (len : ℕ)
     → start ≤ length text → token_at (drop start text) ≡ some_token kind len
     → line ≡ line_of_place text start → IsToken text (token_of start line (kind, len))

@@ -1,4 +1,4 @@
--- A step finds exactly the next token, the end or the first bad place of the text.
+-- A step finds the next token, the end of the text, or the first fault.
 use Rattle.std.proofs.Common.{◌≡◌, ℕ, ◌+◌, ◌-◌, ◌<◌, ◌≤◌, List, [], ◌∷◌, ◌++◌, length, take, drop, Bool, true, false, cond, Option, Some, None, Result, Ok, Err, refl, sym, ◌∙◌, ap, subst, arith, length-drop, nat_eq}
 use Rattle.std.proofs.Math.Seq.{take-add, drop-length}
 use Rattle.std.proofs.lemmas.Bool.Decides.{nat_tests}
@@ -20,8 +20,6 @@ use Rattle.bsdl_lexer.proofs.OpenTexts.{begins_open, open_no_token, open_no_gap}
 use Rattle.bsdl_lexer.proofs.LineFeeds.{line_feeds-append, no_line_feeds}
 use Rattle.bsdl_lexer.proofs.Places.{drop-sum, separates_found, separates_to, no_gap, some_bytes, token_is_found, found_is_token}
 
--- the line of place `place + n` is the line of `place` plus the number of lines that end between
--- the two places
 pub line_past : (text : List ℕ) (place n line : ℕ) → line ≡ line_of_place text place
     → line + line_feeds (take n (drop place text)) ≡ line_of_place text (place + n)
 line_past text place n line e =
@@ -35,7 +33,7 @@ line_past text place n line e =
     let there : line_of_place text (place + n) ≡ 1 + line_feeds (take (place + n) text) = refl in
     omega (arith, whole, sum, here, there)
 
--- the line of a token is also the line of the place behind the token
+-- a token contains no line feed
 pub line_behind : (text : List ℕ) (token : Token) → IsToken text token → token.line ≡ line_of_place text token.«end»
 line_behind text token h =
     let some : token.start < token.«end» = some_bytes text token.start token.«end» token.kind h.form in
@@ -49,7 +47,6 @@ line_behind text token h =
     ≡ line_of_place text token.«end» = on ∙ ap (line_of_place text) same in
     omega (arith, none, here)
 
--- if a token begins at the front, `token_at` finds a token of its kind that is at least as long
 pub begins_found : (rest : List ℕ) (h : BeginsToken rest) → IsWithin rest h.kind (length (take h.len rest))
 begins_found rest h =
     let split : take h.len rest ++ drop h.len rest ≡ rest = take-append-drop h.len rest in
@@ -69,7 +66,7 @@ none_found : (rest : List ℕ) → (BeginsToken rest → ⊥) → (o : Option (T
 none_found rest n None e = e
 none_found rest n (Some t) e = absurd (n (found_begins rest t.0 t.1 e))
 
--- the bytes behind the gap that `gap_len` finds at `place`
+-- the bytes after the gap that `gap_len` finds at `place`
 abbrev rest_at : List ℕ → ℕ → List ℕ
 rest_at text place = drop (place + gap_len false (drop place text)) text
 
@@ -79,8 +76,8 @@ line_at text place line = line + line_feeds (take (gap_len false (drop place tex
 no_gap_behind : (text : List ℕ) (place : ℕ) → begins_gap (rest_at text place) ≡ false
 no_gap_behind text place = ap begins_gap (drop-sum place (gap_len false (drop place text)) text) ∙ ends_gap (drop place text)
 
--- the result of a step is right: it is the next token, the end, an open string, or a byte that
--- begins no token
+-- the step from `place` has the right result: the next token, the end of the text, an open string,
+-- or a byte at which nothing begins
 pub data Found (text : List ℕ) (place line : ℕ) : Result (Option Token) LexFault → Type 0 where
   next : (token : Token) → Separates text place token.start → IsToken text token → Found text place line (Ok (Some token))
   at_end : Separates text place (length text) → Found text place line (Ok None)
@@ -145,8 +142,6 @@ step_finds text place line le l = by_rest (rest_at text place) refl
     by_rest [] e = at_end (subst (Separates text place) (end_reached text at s.within e) s)
     by_rest (first ∷ others) e = by_token first others e (token_at (first ∷ others)) refl
 
--- If a gap leads from `place` to `at`, and no gap begins at `at`, the step finds what is at `at`: a
--- token, the end of the text, or a fault.
 step_from : (text : List ℕ) (place at line : ℕ) (rest : List ℕ) → Separates text place at
     → begins_gap (drop at text) ≡ false → line ≡ line_of_place text place → drop at text ≡ rest
     → step text place line ≡ step_at at (line_of_place text at) rest

@@ -15,7 +15,6 @@ none_of_three false b c = refl
 ends : (x : ℕ) → is_text_byte x ≡ not (is_byte3 34 10 13 x)
 ends x = none_of_three (x == 34) (x == 10) (x == 13)
 
--- if none of the bytes ends the string, all of them belong to it
 pub no_end : (xs : List ℕ) → Nowhere (Passes (is_byte3 34 10 13) xs) 0 (length xs) → prefix_len is_text_byte xs ≡ length xs
 no_end xs nowhere =
     prefix_len_is is_text_byte xs (length xs) 0 (omega arith)
@@ -24,7 +23,6 @@ no_end xs nowhere =
     (false_from_ne_true (is_byte3 34 10 13 (get_or xs k 0))
     (nowhere k (omega arith) within))) (λ within. absurd (omega arith))
 
--- if byte `k` is the first that ends the string, the `k` bytes before it belong to the string
 pub first_end : (xs : List ℕ) (k : ℕ) → NoneBefore (Passes (is_byte3 34 10 13) xs) 0 (length xs) k
     → Passes (is_byte3 34 10 13) xs k → prefix_len is_text_byte xs ≡ k
 first_end xs k before passes =

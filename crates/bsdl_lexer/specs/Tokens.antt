@@ -5,7 +5,7 @@ use Rattle.bsdl_lexer.specs.declared.token.Token.{Token}
 use Rattle.bsdl_lexer.specs.declared.token.TokenKind.{TokenKind}
 use Rattle.bsdl_lexer.specs.Forms.{HasForm, IsGap, begins_comment, line_feed}
 
--- the number of lines that end in these bytes
+-- the number of line feeds in these bytes
 abbrev pub line_feeds : List ℕ → ℕ
 line_feeds bytes = count_by (λ byte. byte == line_feed) bytes
 
@@ -13,7 +13,7 @@ line_feeds bytes = count_by (λ byte. byte == line_feed) bytes
 abbrev pub line_of_place : List ℕ → ℕ → ℕ
 line_of_place text place = 1 + line_feeds (take place text)
 
--- the bytes between the two places are blanks and whole comments
+-- bytes `from..to` of the text are blanks and whole comments
 pub record Separates (text : List ℕ) (from to : ℕ) : Type 0 where
   pub order : from ≤ to
   pub within : to ≤ length text

@@ -5,8 +5,8 @@ ghost use Rattle.bsdl_lexer.specs.declared.token.LexFault.{LexFault};
 ghost use Rattle.bsdl_lexer.specs.Tokens.{AreTokens};
 ghost use Rattle.bsdl_lexer.specs.Answer.{IsLexAnswer};
 
-/// A text has exactly one answer: all its tokens, or the tokens before its first bad place together
-/// with the fault there.
+/// A text has exactly one answer: all its tokens, or the tokens before its first fault together
+/// with this fault.
 pub fn texts_have_one_answer()
     ensures some { (text : List ℕ)
         → (tokens : List Token) × (answer : Result (Unit {0}) LexFault)

@@ -1,4 +1,4 @@
-//! The lengths of the gap and of the token at the front of a list of bytes.
+//! Measures the token, and the gap of blanks and comments, at the front of a list of bytes.
 ghost use Rattle.std.specs.Prelude.{◌≡◌, ◌+◌, ◌≤◌, ◌<◌, ◌^◌, length, take, drop, slice_get, MatchOption, IfSome, false};
 ghost use Rattle.std.specs.List.{prefix_len};
 ghost use Rattle.std.specs.Char.{is_ascii_digit};
@@ -80,8 +80,8 @@ fn text_len(bytes: &[u8]) -> usize
     }
 }
 
-/// Returns `front`, the number of bytes in front of the digits, plus the number of digits. Returns
-/// 0 if there are no digits.
+/// Returns `front` plus the number of digits at the front of `bytes`, or 0 if there are no digits.
+/// `front` is the number of bytes before the digits, at most 2.
 fn digits_behind(front: usize, bytes: &[u8]) -> usize
     requires { front ≤ 2 }
     ensures value { result ≡ with_digits front bytes.now }
@@ -101,8 +101,8 @@ fn fraction_length(bytes: &[u8]) -> usize
     }
 }
 
-/// Returns the length of an exponent whose letter these bytes follow. Returns 0 if they are not an
-/// exponent.
+/// Returns the length of an exponent, including its letter, which is the byte before `bytes`.
+/// Returns 0 if `bytes` does not begin with an optional sign and digits.
 fn signed_length(bytes: &[u8]) -> usize
     ensures value { result ≡ signed_len bytes.now }
     ensures within { result ≤ 1 + length bytes.now }
@@ -140,8 +140,8 @@ fn number_length(bytes: &[u8]) -> usize
     whole + (fraction + exponent)
 }
 
-/// Returns the kind and the length of a string token, whose bytes after the first quote these are.
-/// Returns None if the string is not closed.
+/// Returns the kind and the length of the string token whose opening quote is the byte before
+/// `bytes`. The length includes both quotes. Returns None if the string is not closed on its line.
 fn closed_text(bytes: &[u8]) -> Option<(TokenKind, usize)>
     ensures value { result
         ≡ closed_len (slice_get bytes.now (prefix_len is_text_byte bytes.now))
@@ -155,7 +155,8 @@ fn closed_text(bytes: &[u8]) -> Option<(TokenKind, usize)>
     }
 }
 
-/// Returns the kind and the length of the token at the front, or None if no token begins there.
+/// Returns the kind of the token at the front and its length in bytes, or None if no token begins
+/// there.
 pub(crate) fn token_found(bytes: &[u8]) -> Option<(TokenKind, usize)>
     ensures value { result ≡ token_at bytes.now }
     ensures within { IfSome result (λ found. found.1 ≤ length bytes.now) }
@@ -180,8 +181,9 @@ pub(crate) fn token_found(bytes: &[u8]) -> Option<(TokenKind, usize)>
     }
 }
 
-/// Returns None if the gap does not continue with the first byte. Otherwise returns whether the
-/// next byte is inside a comment.
+/// Takes one step through a gap. Returns None if the first byte of `bytes` does not belong to the
+/// gap. Otherwise returns whether the byte after it is inside a comment. `in_comment` says whether
+/// the first byte is inside a comment.
 fn gap_step(in_comment: bool, bytes: &[u8]) -> Option<bool>
     ensures { MatchOption result (gap_len in_comment bytes.now ≡ 0)
         (λ next. (0 < length bytes.now)
@@ -203,15 +205,15 @@ fn gap_step(in_comment: bool, bytes: &[u8]) -> Option<bool>
     }
 }
 
-/// A gap, which consists of blanks and comments: the gap's length in bytes, and the number of lines
-/// that end in it.
+/// A gap between tokens, which consists of blanks and comments: its length in bytes, and the number
+/// of line feeds in it.
 #[derive(Clone, Copy)]
 pub(crate) struct Gap {
     pub length: usize,
     pub lines: u32,
 }
 
-/// Returns the gap at the front.
+/// Returns the gap at the front of `bytes`, which may be empty. `bytes` must be shorter than 2^32.
 pub(crate) fn gap_at(bytes: &[u8]) -> Gap
     requires { length bytes.now < 2 ^ 32 }
     ensures length { result.length ≡ gap_len false bytes.now }

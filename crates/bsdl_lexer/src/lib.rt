@@ -1,4 +1,4 @@
-//! The tokens of BSDL texts (IEEE 1149.1b-1994; IEEE 1149.1-2001, B.5).
+//! Splits BSDL texts into tokens (IEEE 1149.1b-1994; IEEE 1149.1-2001, B.5).
 #![tactic(auto)]
 
 pub mod law;

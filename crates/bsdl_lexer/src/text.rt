@@ -1,4 +1,4 @@
-//! The tokens of a whole text.
+//! Reads all tokens of a text.
 ghost use Rattle.std.specs.Prelude.{◌≡◌, ◌≤◌, ◌<◌, ◌^◌, ◌+◌, ◌++◌, ◌∷◌, [], List, Result, length, IsTrue, ◌↔◌, OnOk, OnErr, IfErr, alloc_error};
 ghost use Rattle.bsdl_lexer.specs.declared.token.Token.{Token};
 ghost use Rattle.bsdl_lexer.specs.declared.token.LexFault.{LexFault};
@@ -23,8 +23,9 @@ fn fault_at(byte: u8, line: u32) -> LexFault
     }
 }
 
-/// Returns the token at the front of the bytes, which begin at place `start` on line `line`.
-/// Returns None if there are no bytes.
+/// Returns the token at the front of `bytes`, which begin at place `start` of the text, on line
+/// `line`. Returns None if `bytes` is empty, and a fault if no token begins there. `start` plus the
+/// length of `bytes` must be below 2^32.
 fn token_from(bytes: &[u8], start: usize, line: u32) -> Result<Option<Token>, LexFault>
     requires { start + length bytes.now < 2 ^ 32 }
     ensures { result ≡ step_at start line bytes.now }
@@ -43,7 +44,9 @@ fn token_from(bytes: &[u8], start: usize, line: u32) -> Result<Option<Token>, Le
     }
 }
 
-/// Returns the next token at or after `place`, which is on line `line`. Returns None at the end of the text.
+/// Returns the next token at or after `place`, which is on line `line`. Returns None if only blanks
+/// and comments are left, and a fault if something else comes before the next token. `bytes` must
+/// be shorter than 2^32, `place` must be at most its length, and `line` at most `1 + place`.
 fn next_token(bytes: &[u8], place: usize, line: u32) -> Result<Option<Token>, LexFault>
     requires short { length bytes.now < 2 ^ 32 }
     requires within { place ≤ length bytes.now }
@@ -94,15 +97,16 @@ fn add_tokens(bytes: &[u8], out: &mut Vec<Token>) -> Result<(), LexFault>
     Ok(())
 }
 
-/// Appends the tokens of the text to `out`, which must be empty. A text may have any bytes.
+/// Appends the tokens of the text to `out`, which must be empty. The text may contain any bytes,
+/// but must be shorter than 2^32.
 ///
-/// On a fault, `out` has the tokens before the first bad place. If memory runs out, `out` has the
-/// first tokens of the text.
+/// On a fault of the text, `out` contains the tokens before the place of the fault. If memory runs
+/// out, `out` contains the first tokens of the text.
 pub fn lex(bytes: &[u8], out: &mut Vec<Token>) -> Result<(), LexFault>
     requires short { length bytes.now < 2 ^ 32 }
     requires empty { out.old.items ≡ [] }
-    // On Ok, `out` has all tokens. Otherwise `out` has the tokens before the first bad place, and
-    // the fault has the kind of the bad place and the line of this place.
+    // On Ok, `out` contains all tokens. On a fault of the text, `out` contains the tokens before
+    // the place of the fault, and the fault has the line of this place.
     ensures answer { Gives lex_told (λ done. done) (IsLexAnswer bytes.now out.new.items) result }
     // The definition allows no other answer.
     ensures only { Gives lex_told (λ done. done)

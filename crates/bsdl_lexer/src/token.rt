@@ -1,11 +1,11 @@
-//! Tokens, and the faults of a text that is not a list of tokens.
+//! Tokens, and the faults that stop the lexer.
 use std::alloc::AllocError;
 use thiserror::Error;
 
 /// The kind of a token, which the token's form determines.
 #[derive(Clone, Copy, Debug, PartialEq, Eq)]
 pub enum TokenKind {
-    /// A letter, followed by letters, digits and `_`. Upper and lower case are the same.
+    /// A letter, followed by any letters, digits and `_`. BSDL ignores the case of words.
     Word,
     /// Digits, followed by an optional fraction (`.` and digits) and an optional exponent.
     Number,
@@ -25,11 +25,11 @@ pub struct Token {
     pub line: u32,
 }
 
-/// The reason for which a text is not a list of tokens, with the line of the text's first bad
-/// place, or lack of memory.
+/// The reason why a text has no complete list of tokens: the text's first fault, with its line,
+/// counted from 1; or lack of memory.
 #[derive(Clone, Copy, Debug, PartialEq, Eq, Error)]
 pub enum LexFault {
-    /// A byte begins no blank, comment or token.
+    /// A byte at which no blank, comment or token begins.
     #[error("line {0}: byte not allowed")]
     Byte(u32),
     /// In a string, byte 10, byte 13 or the end of the text comes before the closing quote. The

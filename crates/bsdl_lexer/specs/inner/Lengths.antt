@@ -6,8 +6,7 @@ use Rattle.bsdl_lexer.specs.declared.token.TokenKind.{TokenKind}
 use Rattle.bsdl_lexer.specs.declared.token.TokenKind.TheVariants.{Word, Number, Text, Mark}
 use Rattle.bsdl_lexer.specs.Forms.{is_bsdl_blank, is_word_byte, is_text_byte, is_mark_byte, is_exponent_letter, is_sign, begins_comment, line_feed, quote, point}
 
--- `front`, the number of bytes in front of the digits, plus the number of digits; or 0 if there are
--- no digits
+-- `front` plus the number of digits at the front of `bytes`, or 0 if there are no digits
 abbrev pub with_digits : ℕ → List ℕ → ℕ
 with_digits front bytes = if prefix_len is_ascii_digit bytes == 0 then 0 else front + prefix_len is_ascii_digit bytes
 
@@ -16,7 +15,8 @@ abbrev pub fraction_len : List ℕ → ℕ
 fraction_len [] = 0
 fraction_len (first ∷ others) = if first == point then with_digits 1 others else 0
 
--- the length of an exponent whose letter these bytes follow, or 0 if they are not an exponent
+-- the length of an exponent including its letter, which is the byte before these bytes; or 0 if
+-- these bytes do not begin with an optional sign and digits
 abbrev pub signed_len : List ℕ → ℕ
 signed_len [] = 0
 signed_len (first ∷ others) = if is_sign first then with_digits 2 others else with_digits 1 (first ∷ others)
@@ -33,8 +33,9 @@ number_len bytes =
     let fraction = fraction_len (drop whole bytes) in
     whole + (fraction + exponent_len (drop fraction (drop whole bytes)))
 
--- the kind and the length of a string token with `inner` bytes between its quotes, or None if the
--- byte behind these is not a quote
+-- The kind and the length of a string token with `inner` bytes between its quotes. The first
+-- argument is the byte after these bytes. The result is None if that byte is missing or is not a
+-- quote.
 abbrev pub closed_len : Option ℕ → ℕ → Option (TokenKind × ℕ)
 closed_len None inner = None
 closed_len (Some byte) inner = if byte == quote then Some (Text, suc (suc inner)) else None
