@@ -22,7 +22,7 @@ use Rattle.bsdl_parser.proofs.Decided.{decides_file}
 use Rattle.bsdl_parser.proofs.AttributeKinds.{have_kinds}
 use Rattle.bsdl_parser.proofs.Sizes.{is_small}
 
--- the list `xs ++ token` is also `ys ++ rest`, and `rest` begins at `token` or earlier
+-- `xs` followed by `token` is also `ys` followed by `rest`, and `rest` contains at least `token`
 pub record Halves (xs ys : List Lexeme) (token : Lexeme) (rest : List Lexeme) : Type 0 where
   pub middle : List Lexeme
   pub front : xs ≡ ys ++ middle
@@ -66,7 +66,7 @@ stops_at before token after e (refused (r ∷ rest)) is more h =
         cc
 
 -- the two results that the reader can have if `token` is the first stray token: it refuses `token`
--- inside a file, or it finds an entity in front of `token`
+-- inside a file, or it finds an entity in the tokens before `token`
 pub data StrayRead (before : List Lexeme) (token : Lexeme) (after : List Lexeme) (o : Outcome Lexeme Entity) : Type 0 where
   inside : o ≡ refused (token ∷ after) → read before ≡ refused [] → StrayRead before token after o
   behind : (entity : Entity) → o ≡ found entity (token ∷ after) → read before ≡ found entity [] → StrayRead before token after o
@@ -89,7 +89,6 @@ pub is_stray_read : (tokens before : List Lexeme) (token : Lexeme) (after : List
     → IsStray tokens before token after → StrayRead before token after (read tokens)
 is_stray_read tokens before token after h = stray_read tokens before token after h (read before) refl (decides_file.cut before h.begins)
 
--- if the reader finds an entity and tokens are left, the first of them is the first stray token
 stray_behind : (tokens : List Lexeme) (entity : Entity) (token : Lexeme) (after : List Lexeme)
     (h : Reads read tokens entity (token ∷ after)) → IsStray tokens h.front token after
 stray_behind tokens entity token after h =
@@ -100,7 +99,6 @@ stray_behind tokens entity token after h =
       stray = λ k. let out : token ∷ [] ≡ [] = subst RunsOut (h.again (token ∷ [])) (decides_file.cut (h.front ++ token ∷ []) k) in cc;
     }
 
--- if the reader refuses a token, this token is the first stray token
 stray_inside : (tokens : List Lexeme) (token : Lexeme) (after : List Lexeme)
     (h : Refuses read tokens (token ∷ after)) → IsStray tokens h.front token after
 stray_inside tokens token after h = record {
@@ -129,12 +127,10 @@ fault_is text tokens before token after h false is starts =
           cc;
     })
 
--- if the word `package` follows a whole file, it begins a package text
 starts_behind : (before : List Lexeme) (token : Lexeme) (entity : Entity)
     → read before ≡ found entity [] → is_package token ≡ true → StartsPackage before token
 starts_behind before token entity e word = record { word = word; place = inr (entity, decides_file.is_whole before entity e) }
 
--- if the tokens from `token` on are as many as all tokens, no token is in front of `token`
 no_front : (before after tokens : List Lexeme) (token : Lexeme) → tokens ≡ before ++ token ∷ after
     → nat_eq (length (token ∷ after)) (length tokens) ≡ true → before ≡ []
 no_front [] after tokens token e h = refl
@@ -145,7 +141,6 @@ no_front (t ∷ before) after tokens token e h =
     in
     absurd (grind (arith, nat_tests))
 
--- the word `package` begins a package text if it is the first token
 starts_inside : (before after tokens : List Lexeme) (token : Lexeme)
     → tokens ≡ before ++ token ∷ after
     → (is_package token && nat_eq (length (token ∷ after)) (length tokens)) ≡ true
@@ -184,7 +179,6 @@ judged_is text tokens (refused (token ∷ after)) is h =
     (is_package token && nat_eq (length (token ∷ after)) (length tokens))
     (starts_inside h.front after tokens token h.split) (is_start_inside h.front after tokens token h.split h.before)
 
--- the answer that `judged` computes from the reader's result is an answer to the text
 pub is_answer : (text : List ℕ) (tokens : List Lexeme) → IsParseAnswer text tokens (judged text tokens (reader_of_grammar file tokens))
 is_answer text tokens = judged_is text tokens (read tokens) refl (decides_file.local tokens)
 
@@ -216,7 +210,6 @@ stray_is text tokens before token after h o (behind entity e whole) b starts is 
     (λ k. starts (starts_behind before token entity whole k)) in
     ap (λ b. Err (fault_on_line b token.line)) same ∙ ap (judged text tokens) (sym e)
 
--- each answer to a text is the one that `judged` computes from the reader's result
 pub one_answer : (text : List ℕ) (tokens : List Lexeme) (other : Result Entity ParseFault)
     → IsParseAnswer text tokens other → other ≡ judged text tokens (reader_of_grammar file tokens)
 one_answer text tokens (Ok entity) h = ap (judged text tokens) (sym (decides_file.whole tokens entity h))
@@ -233,8 +226,6 @@ one_answer text tokens (Err (Package line)) h =
     (is_stray_read tokens h.before h.token h.after h.stray) true (λ k. refl) (λ e. h.such)
 one_answer text tokens (Err (Memory error)) h = absurd h
 
--- if a function returns what `judged` computes from the reader's result, its result is an answer to
--- the text
 pub answer_holds : (text : List ℕ) (tokens : List Lexeme) (result : Result Entity ParseFault)
     → Gives parse_told (λ entity. entity)
     (λ said. judged text tokens (reader_of_grammar file tokens) ≡ said) result
@@ -253,15 +244,12 @@ pub only_answer : (text : List ℕ) (tokens : List Lexeme) (result : Result Enti
 only_answer text tokens (Ok entity) e = λ other h. one_answer text tokens other h ∙ e
 only_answer text tokens (Err fault) e = IfSome_then (parse_told fault) e (λ f is other h. one_answer text tokens other h ∙ is)
 
--- a list of tokens derives at most one entity
 pub one_entity : (tokens : List Lexeme) (entity other : Entity) → Derives tokens entity → Derives tokens other → entity ≡ other
 one_entity tokens entity other h k =
     let both : ◌≡◌ {A = Outcome Lexeme Entity} (found entity []) (found other []) = sym
     (decides_file.whole tokens entity h) ∙ decides_file.whole tokens other k in
     cc
 
--- each attribute of an entity that the function returns has the kind of value that its number
--- requires
 pub kinds_hold : (text : List ℕ) (tokens : List Lexeme) (result : Result Entity ParseFault)
     → Gives parse_told (λ entity. entity)
     (λ said. judged text tokens (reader_of_grammar file tokens) ≡ said) result

@@ -20,7 +20,7 @@ use Rattle.bsdl_parser.specs.Bsdl.{used, plain_value, port_value, clock_value, n
 use Rattle.bsdl_parser.specs.Answer.{Derives}
 use Rattle.bsdl_parser.specs.Entity.{is_number_among, port_attributes, number_attributes, text_attributes, HasKind, HaveKinds}
 
--- `Fact` is true of each value that the phrase derives
+-- `Fact` holds for each value that the phrase derives
 abbrev Yields : {A : Type 0} → Phrase A → (A → Type 0) → Type 0
 Yields g Fact = (n : ℕ) → Keeps (λ token. 0) g n (λ m a. Fact a)
 
@@ -61,7 +61,6 @@ used_fits name =
     last_fits true = refl
     last_fits false = tt
 
--- each value of this form has the right kind for each number whose attributes have this form
 value_kind : (form : AttrForm) → Yields (value_of form) (λ value. (number : ℕ) → FitsForm number form → HasKind number value)
 unfolding plain_value port_value clock_value number_value text_value
 value_kind forms.Plain n =
@@ -133,6 +132,5 @@ file_kinds n =
     (λ items _ h. keeps_in_turn keeps_nothing
     (λ _ _ _. keeps_in_turn keeps_nothing (λ _ _ _. keeps_done h))))))
 
--- in every entity that the grammar derives, each attribute has the kind of value that its number requires
 pub have_kinds : (tokens : List Lexeme) (entity : Entity) → Derives tokens entity → HaveKinds entity
 have_kinds tokens entity h = (file_kinds 0).kept tokens entity h

@@ -1,4 +1,5 @@
--- Each turn of the file's grammar takes at least one token, so the grammar's reader decides the file.
+-- Each repetition in the grammar of a file takes at least one token. So the grammar's reader finds
+-- the entity of every file, and refuses all other token lists.
 use Rattle.std.proofs.Common.{ℕ, List, Bool, true, false, Option, Some, None, inl, inr}
 use Rattle.bsdl_parser.specs.declared.entity.Attribute.{Attribute}
 use Rattle.bsdl_parser.specs.declared.draft.ItemWord.{ItemWord}
@@ -99,7 +100,5 @@ file_takes : EachTurnTakes file
 unfolding file
 file_takes = (tt, λ _. (tt, λ name. (tt, λ _. (item_takes, λ items. (tt, λ named. (close_takes named, λ _. tt))))))
 
--- if the file's reader finds a value, it is the value of the file; if the reader refuses the
--- tokens, they derive no entity
 pub decides_file : Decides (production_of file) (reader_of_grammar file)
 decides_file = decides_grammar file file_takes

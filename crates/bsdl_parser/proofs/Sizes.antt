@@ -1,5 +1,7 @@
 -- The names and texts of an entity are no longer than the text, and its lists have no more items
--- than the text has bytes.
+-- than the text has bytes. In the proof, each value costs at most the total weight of its tokens.
+-- The weight of a token is the cost of its bytes, and the cost of a name is its length, but at
+-- least 1.
 use Rattle.std.proofs.Common.{◌≡◌, ℕ, ◌+◌, ◌-◌, ◌<◌, ◌≤◌, List, [], ◌∷◌, ◌++◌, ◌^◌, ◌∙◌, length, map, drop, Bool, true, false, Option, Some, None, refl, ap, subst, arith, length-append, length-drop, length-take}
 use Rattle.std.proofs.lemmas.List.{length-map}
 use Rattle.std.proofs.lemmas.List.Elements.{All-nil, All-cons, All-weaker}
@@ -273,7 +275,6 @@ file_cost n = keeps_in_turn keeps_more (λ _ a ha. keeps_in_turn (word_cost a) (
     (λ items d hd. keeps_in_turn keeps_more
     (λ _ e he. keeps_in_turn keeps_more (λ _ f hf. keeps_done (omega arith)))))))
 
--- if each item costs at least 1, a list has no more items than its items cost together
 some_each : {X : Type 0} (f : X → ℕ) → ((x : X) → 0 < f x) → (xs : List X) → length xs ≤ total f xs
 some_each f h [] = omega arith
 some_each f h (x ∷ xs) = let others : length xs ≤ total f xs = some_each f h xs in let first : 0 < f x = h x in omega arith
@@ -336,7 +337,6 @@ small entity h = record {
       (each_below attr_cost (2 ^ 32) entity.attributes (omega arith));
 }
 
--- the weight of a token of a text is the number of bytes of the token
 token_weight : (text : List ℕ) (token : Token) → IsToken text token → weight (lexeme_of text token) ≡ token.«end» - token.start
 token_weight text token h =
     let some : token.start < token.«end» = some_bytes text token.start token.«end» token.kind h.form in
@@ -351,8 +351,6 @@ token_weight text token h =
     exact [] e some = omega arith
     exact (x ∷ xs) e some = e
 
--- if tokens stand in order from byte `from` to byte `to` of a text, the total of their weights is
--- at most `to - from`
 tokens_weight : (text : List ℕ) (tokens : List Token) (from to : ℕ) → Stand text from tokens to
     → from + total weight (lexemes text tokens) ≤ to
 tokens_weight text [] from to h = let order : from ≤ to = h.order in omega arith
@@ -363,7 +361,6 @@ tokens_weight text (token ∷ tokens) from to h =
     let others : token.«end» + total weight (lexemes text tokens) ≤ to = tokens_weight text tokens token.«end» to h.2 in
     omega arith
 
--- if a text has fewer than 2^32 bytes, and its tokens derive an entity, the entity is small
 pub is_small : (text : List ℕ) (tokens : List Token) (entity : Entity) → length text < 2 ^ 32
     → AreTokens text tokens → Derives (lexemes text tokens) entity → IsSmall entity
 is_small text tokens entity short h derives =

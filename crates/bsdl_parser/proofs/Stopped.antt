@@ -1,4 +1,4 @@
--- If one turn of a loop stops at a token, the loop stops at this token.
+-- If one repetition of a loop stops at a token, the loop stops at this token.
 use Rattle.std.proofs.Common.{◌≡◌, List}
 use Rattle.grammars.specs.Turn.{Turn}
 use Rattle.grammars.specs.inner.Reader.{Outcome}

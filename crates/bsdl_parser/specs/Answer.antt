@@ -22,14 +22,13 @@ pub record IsStray (tokens before : List Lexeme) (token : Lexeme) (after : List 
   pub begins : BeginsFile before
   pub stray : BeginsFile (before ++ token ∷ []) → ⊥
 
--- the token is the word `package`, and is either the first of the text or directly behind a whole
+-- the token is the word `package`, and is either the first of the text or directly after a whole
 -- file
 pub record StartsPackage (before : List Lexeme) (token : Lexeme) : Type 0 where
   pub word : IsTrue (is_the_word (codes "PACKAGE") token)
   pub place : (before ≡ []) ⊎ ((entity : Entity) × Derives before entity)
 
--- the first stray token is on this line, and `IsSuch` is true of the tokens before it and of the
--- token
+-- the first stray token is on this line, and `IsSuch` holds for the tokens before it and the token
 pub record StraysAt (tokens : List Lexeme) (line : ℕ) (IsSuch : List Lexeme → Lexeme → Type 0) : Type 0 where
   pub before : List Lexeme
   pub token : Lexeme

@@ -1,9 +1,9 @@
--- The numbers of the attributes that are used.
+-- The numbers of the attributes that this program uses.
 use Rattle.std.specs.Prelude.{ℕ}
 use Rattle.bsdl_parser.specs.declared.entity.Attribute.{Attribute}
 use Rattle.bsdl_parser.specs.declared.entity.Attribute.TheVariants as attributes
 
--- the number by which an entity and a fault name the attribute
+-- the attribute's number, by which entities and faults refer to it
 abbrev pub attribute_number : Attribute → ℕ
 attribute_number attributes.PinMap = 1
 attribute_number attributes.TapScanIn = 2

@@ -124,7 +124,8 @@ constant = do
   text ← string (codes ";")
   done (record { name = name; text = text })
 
--- the attribute with this name and its form, if the attribute is used
+-- the attribute with this name, which is in upper case, and the form of its value; or None if this
+-- program does not use the attribute
 abbrev pub used : List ℕ → Option (Attribute × AttrForm)
 used name =
     if bytes_eq name (codes "PIN_MAP") then Some (attributes.PinMap, forms.Plain) else
@@ -195,7 +196,7 @@ text_value = do
   text ← string (codes ";")
   done (values.Text text)
 
--- the value of a used attribute and its ";", after the attribute's name
+-- the value of an attribute that this program uses and its ";", after the attribute's name
 abbrev pub value_of : AttrForm → Phrase AttrValue
 value_of forms.Plain = plain_value
 value_of forms.Port = port_value
@@ -233,7 +234,7 @@ abbrev pub listed : {A : Type 0} → Option A → List A
 listed None = []
 listed (Some a) = a ∷ []
 
--- the items that the reader has read
+-- the items of an entity that the reader has read so far
 pub record Items : Type 0 where
   pub has_generic : Bool
   pub fallback : Option (List ℕ)
@@ -246,9 +247,9 @@ pub record Items : Type 0 where
 abbrev pub no_items : Items
 no_items = record { has_generic = false; fallback = None; has_port = false; ports = []; uses = []; constants = []; attributes = [] }
 
--- The kind of item that the word begins, or None if no such item may follow the items `before`. A
--- file has at most one generic item and at most one port item, and `end` may follow only both of
--- them.
+-- The kind of item that the word begins, or None if no item begins with the word or this item may
+-- not follow the items `before`. A file has at most one generic item and at most one port item, and
+-- `end` may follow only both of them.
 abbrev pub item_word : Items → List ℕ → Option ItemWord
 item_word before word =
     if bytes_eq word (codes "GENERIC") then some_if (not before.has_generic) words.Generic else

@@ -9,7 +9,7 @@ use Rattle.bsdl_parser.specs.declared.entity.Attribute.TheVariants.{PinMap, TapS
 use Rattle.bsdl_parser.specs.declared.entity.Entity.{Entity}
 use Rattle.bsdl_parser.specs.AttributeNumbers.{attribute_number}
 
--- the number is that of one of the attributes
+-- one of these attributes has this number
 abbrev pub is_number_among : List Attribute → ℕ → Bool
 is_number_among attributes number = list_any (λ attribute. attribute_number attribute == number) attributes
 

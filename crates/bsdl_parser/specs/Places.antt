@@ -1,4 +1,5 @@
--- The grammars of single tokens: which tokens fit, and the value of a token that fits.
+-- Grammars of one token each. A grammar says which tokens it accepts, and what value an accepted
+-- token has.
 use Rattle.std.specs.Prelude.{ℕ, ◌-◌, List, length, Bool, true, false, ◌&&◌, if◌then◌else◌, Option, Some, None, codes}
 use Rattle.std.specs.List.{slice_range}
 use Rattle.std.specs.Str.{bytes_eq}
@@ -10,7 +11,7 @@ use Rattle.grammars.specs.Grammar.{Grammar, place}
 use Rattle.grammars.specs.Values.{some_if, is_integer, digits_value}
 use Rattle.bsdl_parser.specs.Lexeme.{Lexeme}
 
--- the grammar of a part of a BSDL text
+-- a grammar of a part of a BSDL text, with values of type `A`
 abbrev pub Phrase : Type 0 → Type 1
 Phrase A = Grammar Lexeme A
 

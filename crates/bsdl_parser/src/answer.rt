@@ -24,7 +24,8 @@ fn count_line_feeds(bytes: &[u8]) -> usize
     bytes.iter().filter(|byte| **byte == b'\n').count()
 }
 
-/// Returns the line of the text's last byte, or 1 for an empty text.
+/// Returns the line of the text's last byte, or 1 for an empty text. The text must be shorter than
+/// 2^32 bytes.
 fn last_line_of(text: &[u8]) -> u32
     requires { length text.now < 2 ^ 32 }
     ensures { result ≡ last_line text.now }
@@ -68,14 +69,15 @@ fn judge(alloc: Global, text: &[u8], tokens: &[Token]) -> Result<Entity, ParseFa
     }
 }
 
-/// Returns the entity that the tokens of the text derive, or the text's first fault.
+/// Returns the entity that the text describes, or the text's first fault.
 ///
-/// `tokens` must be the tokens that `bsdl_lexer::lex` finds in the text.
+/// `tokens` must be the tokens that `bsdl_lexer::lex` finds in `bytes`, and `bytes` must be shorter
+/// than 2^32.
 pub fn parse(alloc: Global, bytes: &[u8], tokens: &[Token]) -> Result<Entity, ParseFault>
     requires short { length bytes.now < 2 ^ 32 }
     requires tokens { AreTokens bytes.now tokens.now }
-    // On Ok, the tokens derive the entity. Otherwise the fault belongs to the first token that does
-    // not fit, or to the missing rest of a file.
+    // On Ok, the tokens are a whole file whose value is the entity. Otherwise the fault is at the
+    // first token that cannot continue a file, or at the end of an unfinished file.
     ensures answer { Gives parse_told (λ entity. entity)
         (IsParseAnswer bytes.now (lexemes bytes.now tokens.now)) result }
     // The definition allows no other answer.
@@ -83,7 +85,8 @@ pub fn parse(alloc: Global, bytes: &[u8], tokens: &[Token]) -> Result<Entity, Pa
         (λ answer. (other : Result Entity ParseFault)
         → IsParseAnswer bytes.now (lexemes bytes.now tokens.now) other → other ≡ answer) result }
 
-    // Every returned entity has values of the right kinds, and is small.
+    // In a returned entity, each attribute has the kind of value that its number requires. All
+    // names, texts and lists are shorter than 2^32.
     ensures kinds { IfOk result HaveKinds }
     ensures small { IfOk result IsSmall }
 {

@@ -1,4 +1,4 @@
-//! Reads attribute items. Some attributes are used, and all others are skipped.
+//! Reads attribute items. Skips the items of all attributes that this program does not use.
 ghost use Rattle.std.specs.Prelude.{◌≡◌, map};
 ghost use Rattle.std.specs.Char.{to_ascii_uppercase};
 ghost use Rattle.grammars.specs.Turn.{turn_of};
@@ -13,7 +13,8 @@ use crate::stop::Stop;
 use board_defs::Name;
 use grammars::spells;
 
-/// Returns the attribute with this name and its form, or None if the attribute is not used.
+/// Returns the attribute with this name and the form of its value, or None if this program does not
+/// use the attribute. The case of the name does not matter.
 fn used_attribute(name: &[u8]) -> Option<(Attribute, AttrForm)>
     ensures { result ≡ used (map to_ascii_uppercase name.now) }
 {
@@ -59,7 +60,7 @@ impl<'a> Cursor<'a> {
         Ok(used_attribute(name))
     }
 
-    /// Reads `of`, a word, `:`, the word `class` and `is`. Returns the word after `of`.
+    /// Reads `of`, a word, `:`, the word in `class`, and `is`. Returns the word after `of`.
     #[tactic(auto, unfolding(crate::specs::Bsdl::of_class))]
     fn of_class(&mut self, class: &[u8]) -> Result<&'a [u8], Stop>
         ensures { ReadsTokens (reader_of_grammar (of_class class.now)) self.old self.new result
@@ -144,7 +145,7 @@ impl<'a> Cursor<'a> {
         }
     }
 
-    /// Skips one token. Returns false if the token is the final `;`.
+    /// Skips one token. Returns false if the token is `;`, which ends the item.
     #[tactic(auto, unfolding(crate::specs::Bsdl::skipped_token))]
     fn skipped_token(&mut self) -> Result<bool, Stop>
         ensures { ReadsTokens (reader_of_grammar (skipped_token tt)) self.old self.new result
@@ -163,7 +164,8 @@ impl<'a> Cursor<'a> {
         Ok(())
     }
 
-    /// Reads an attribute item after its first word. If the attribute is not used, skips the item and returns None.
+    /// Reads an attribute item after its first word. If this program does not use the attribute,
+    /// skips the item and returns None.
     #[tactic(auto, unfolding(crate::specs::Bsdl::attribute))]
     pub(crate) fn attribute_item(&mut self) -> Result<Option<Attr>, Stop>
         ensures { ReadsTokens (reader_of_grammar attribute) self.old self.new result

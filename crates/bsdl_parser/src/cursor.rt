@@ -14,15 +14,14 @@ use grammars::spells;
 use std::alloc::Global;
 use std::marker::Model;
 
-/// What a fault says about the next token: whether the token is the word `package`, and the token's
-/// line.
+/// The next token, as far as a fault depends on it: whether it is the word `package`, and its line.
 #[derive(Clone, Copy)]
 pub(crate) struct Front {
     pub is_package: bool,
     pub line: u32,
 }
 
-/// The tokens of a text that the cursor has not read, and the allocator for the values that the
+/// The tokens of `text` that the cursor has not read, and the allocator for the values that the
 /// cursor makes from tokens.
 #[derive(Drop)]
 pub(crate) struct Cursor<'a> {

@@ -2,7 +2,7 @@
 use crate::entity::{Attr, Constant, Port};
 use board_defs::Name;
 
-/// The items that a cursor has read.
+/// The items of an entity that a cursor has read so far.
 #[derive(Drop)]
 pub(crate) struct Draft {
     pub has_generic: bool,
@@ -25,7 +25,7 @@ pub(crate) enum ItemWord {
     End,
 }
 
-/// The form of the value of an attribute that is used.
+/// The form of the value of an attribute that this program uses.
 #[derive(Clone, Copy)]
 pub(crate) enum AttrForm {
     Plain,

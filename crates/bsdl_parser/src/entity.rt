@@ -21,7 +21,8 @@ pub struct Port {
     pub range: Option<Range>,
 }
 
-/// A pin map. `name` is the name of the constant, which is the name of a package.
+/// A pin map. `name` is the constant's name, which names a package. `text` is the constant's
+/// string.
 #[derive(Drop)]
 pub struct Constant {
     pub name: Name,
@@ -41,7 +42,8 @@ pub enum AttrValue {
     Text(Name),
 }
 
-/// An attribute that is used (IEEE 1149.1-2001, B.8). The variants are in the order of the attributes' numbers.
+/// An attribute that this program uses (IEEE 1149.1-2001, B.8). The variants are in the order of
+/// the attributes' numbers.
 #[derive(Clone, Copy)]
 pub enum Attribute {
     PinMap,
@@ -61,7 +63,8 @@ pub enum Attribute {
 }
 
 impl Attribute {
-    /// Returns the number, from 1 to 14, by which an entity and a fault name the attribute.
+    /// Returns the attribute's number, from 1 to 14. Entities and faults refer to attributes by
+    /// this number.
     pub fn number(self) -> u32
         ensures { result ≡ attribute_number self }
     {

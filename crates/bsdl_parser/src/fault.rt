@@ -1,4 +1,4 @@
-//! The reasons for which a text describes no entity.
+//! The reasons why `parse` returns no entity.
 use std::alloc::AllocError;
 use thiserror::Error;
 

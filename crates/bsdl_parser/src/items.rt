@@ -14,7 +14,8 @@ use crate::stop::Stop;
 use board_defs::Name;
 use grammars::spells;
 
-/// Returns the kind of item that the word begins. Returns None if no such item may follow the items so far.
+/// Returns the kind of item that the word begins. Returns None if no item begins with the word, or
+/// if this item may not follow the items in `draft`.
 fn begun(word: &[u8], draft: &Draft) -> Option<ItemWord>
     ensures { result ≡ item_word (items_of draft.now) (map to_ascii_uppercase word.now) }
 {

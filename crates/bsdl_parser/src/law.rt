@@ -24,7 +24,8 @@ pub fn token_lists_have_one_answer()
 {}
 
 /// The value of each attribute of a derived entity has the kind that the attribute's number
-/// requires. If the tokens belong to a text of fewer than 2^32 bytes, the entity is small.
+/// requires. If the tokens belong to a text of fewer than 2^32 bytes, the names, texts and lists of
+/// the entity are shorter than 2^32.
 pub fn entities_keep_their_limits()
     ensures kinds { (tokens : List Lexeme) (entity : Entity) → Derives tokens entity
         → HaveKinds entity }

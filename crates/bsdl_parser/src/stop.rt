@@ -1,10 +1,10 @@
-//! The reasons for which a cursor stops.
+//! The reasons why a cursor stops.
 ghost use Rattle.std.specs.Prelude.{◌≡◌, alloc_error};
 ghost use Rattle.bsdl_parser.specs.declared.stop.Stop.TheVariants.{Memory};
 
 use std::alloc::{AllocError, AllocFailed};
 
-/// The reason for which a cursor stops: memory ran out, or the next token does not fit the grammar.
+/// The reason why a cursor stops: memory ran out, or the next token does not fit the grammar.
 #[derive(Clone, Copy)]
 pub(crate) enum Stop {
     Memory(AllocError),

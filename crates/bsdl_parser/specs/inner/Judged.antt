@@ -12,7 +12,8 @@ use Rattle.bsdl_parser.specs.Answer.{last_line}
 abbrev pub is_package : Lexeme → Bool
 is_package token = is_the_word (codes "PACKAGE") token
 
--- the facts about the first of these tokens, if there is one
+-- whether the first of these tokens is the word `package`, and its line; or None if there is no
+-- token
 abbrev pub front_of : List Lexeme → Option Front
 front_of [] = None
 front_of (token ∷ after) = Some (record { is_package = is_package token; line = token.line })
@@ -20,14 +21,14 @@ front_of (token ∷ after) = Some (record { is_package = is_package token; line 
 abbrev pub fault_on_line : Bool → ℕ → ParseFault
 fault_on_line starts_package line = if starts_package then Package line else Expected line
 
--- the answer if a whole file was found and these are the facts about the token behind it, which is
--- stray
+-- The answer if the reader found a whole file. A token after the file is a fault, and `front`
+-- describes this token.
 abbrev pub behind_file : Entity → Option Front → Result Entity ParseFault
 behind_file entity None = Ok entity
 behind_file entity (Some front) = Err (fault_on_line front.is_package front.line)
 
--- The answer if the text stops being a prefix of a file at this token, or if it ends inside a file.
--- The word `package` begins a package text only if it is the first token.
+-- The answer if the reader stopped inside a file, at the token that `front` describes or at the end
+-- of the text. The word `package` begins a package text only if it is the first token.
 abbrev pub inside_file : List ℕ → Bool → Option Front → Result Entity ParseFault
 inside_file text is_first None = Err (Expected (last_line text))
 inside_file text is_first (Some front) = Err (fault_on_line (front.is_package && is_first) front.line)

@@ -4,7 +4,8 @@ use Rattle.grammars.specs.inner.Reader.{Outcome, Reader, found, refused}
 use Rattle.bsdl_parser.specs.declared.stop.Stop.{Stop}
 use Rattle.bsdl_parser.specs.declared.stop.Stop.TheVariants.{Memory, Stray}
 
--- either the reader refuses its tokens and leaves `left`, or memory ran out
+-- the function stopped because the reader refuses its tokens and leaves `left`, or because memory
+-- ran out
 abbrev pub StopsBy : {T A : Type 0} → Outcome T A → List T → Stop → Type 0
 StopsBy outcome left (Memory error) = Unit {0}
 StopsBy outcome left Stray = outcome ≡ refused left

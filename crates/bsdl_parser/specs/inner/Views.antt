@@ -1,4 +1,4 @@
--- The items that a cursor has read, as contracts see them.
+-- The items of a draft, as the grammar's definitions have them.
 use Rattle.bsdl_parser.specs.declared.draft.Draft.{Draft}
 use Rattle.bsdl_parser.specs.Bsdl.{Items}
 
