@@ -1,5 +1,5 @@
--- Lists inside a string. Their entries and marks can be read, and if reading stops in an entry, the
--- string goes wrong at that entry.
+-- Lemmas about lists in a string. A reader can read their entries and marks, and an entry in which
+-- it stops is the first wrong entry.
 use Rattle.std.proofs.Common.{◌≡◌, ℕ, ◌<◌, ◌^◌, length, arith, subst, sym, ◌∙◌, ap, Bool, true, false, List, [], ◌∷◌, ◌++◌, Option, Some, None, inl}
 use Rattle.std.specs.Borrow.{Bor}
 use Rattle.grammars.specs.inner.Reader.{found}
@@ -90,7 +90,6 @@ stops_in_mark can tokens here mid before one (Memory error) so_far e f = tt
 stops_in_mark can tokens here mid before one (At rest) so_far e f =
     stops_after_entry can tokens here mid (pieces rest.now) before one so_far e f
 
--- if a text has fewer than 2^32 bytes, fewer than 2^31 whole entries were read from it
 pub few_entries : {A : Type 0} {entry : Part A} (text rest : List ℕ) (before : List A)
     → Progress entry comma_or_end (pieces text) (pieces rest) before → length text < 2 ^ 32
     → length before < 2 ^ 31

@@ -1,4 +1,4 @@
--- Lemmas about the pieces of a text, which are found from the front of the text.
+-- Lemmas about the pieces at the front of a text, and about the number of pieces.
 use Rattle.std.specs.Bool.{if◌then◌else◌}
 use Rattle.std.proofs.Common.{suc, ◌≡◌, ℕ, ◌+◌, ◌≤◌, Bool, true, false, ◌&&◌, cond, List, [], ◌∷◌, length, take, drop, refl, sym, ◌∙◌, ap, arith}
 use Rattle.std.specs.List.{take_while}
@@ -6,7 +6,7 @@ use Rattle.std.proofs.lemmas.List.Sums.{take_while-cons}
 use Rattle.std.proofs.lemmas.Bool.Decides.{nat_tests}
 use Rattle.bsdl_strings.specs.Pieces.{is_string_blank, is_word_byte, starts_word, starts_blank, is_end, longer, pieces}
 
--- the list without the longest front whose items all pass the test
+-- the list without its longest prefix of items that pass the test
 pub dropped : (ℕ → Bool) → List ℕ → List ℕ
 dropped p [] = []
 dropped p (x ∷ xs) = cond (p x) (dropped p xs) (x ∷ xs)
@@ -58,7 +58,6 @@ unfolding dropped
 starts_dropped [] = refl
 starts_dropped (x ∷ xs) = no_blank x xs (is_string_blank x) refl (starts_dropped xs)
 
--- a byte of a word is not a blank
 pub word_is_no_blank : (x : ℕ) → is_word_byte x ≡ true → is_string_blank x ≡ false
 word_is_no_blank x h = grind (arith, nat_tests)
 
@@ -96,7 +95,6 @@ pub word_is_some : (xs : List ℕ) → starts_word xs ≡ true → is_end (take_
 word_is_some [] e = cc
 word_is_some (x ∷ xs) e = ap is_end (taken_more x xs e)
 
--- the step for one byte: the bounds on the number of pieces hold with one more byte
 sized : (b w : Bool) (x n : ℕ) (ps : List (List ℕ)) → (1 ≤ length ps) × (length ps ≤ n + 1)
     → (1 ≤ length (if b then ps else if w then longer x ps else (x ∷ []) ∷ ps))
     × (length (if b then ps else if w then longer x ps else (x ∷ []) ∷ ps) ≤ suc n + 1)
@@ -105,7 +103,6 @@ sized false true x n [] h = absurd (omega (arith, h.0))
 sized false true x n (p ∷ ps) h = (omega arith, omega (arith, h.1))
 sized false false x n ps h = (omega arith, omega (arith, h.1))
 
--- a text of `n` bytes has at least 1 and at most `n + 1` pieces, with the end as the last piece
 pub length_pieces : (xs : List ℕ) → (1 ≤ length (pieces xs)) × (length (pieces xs) ≤ length xs + 1)
 unfolding pieces
 length_pieces [] = (omega arith, omega arith)

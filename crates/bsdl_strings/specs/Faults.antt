@@ -1,4 +1,4 @@
--- The fault of a string, computed from the reason for which reading stopped.
+-- The fault of a string, computed from the reason why reading stopped.
 use Rattle.std.specs.Prelude.{ℕ, ◌+◌}
 use Rattle.bsdl_strings.specs.declared.stop.Stop.{Stop}
 use Rattle.bsdl_strings.specs.declared.stop.Stop.TheVariants as stops
@@ -11,7 +11,7 @@ abbrev pub stop_fault : Stop → ℕ → StringFault
 stop_fault (stops.Memory error) entries = faults.Memory error
 stop_fault (stops.At rest) entries = faults.At (entries + 1)
 
--- either `P` is true of the number in the fault, or memory ran out
+-- `P` holds for the number in the fault, or memory ran out
 abbrev pub NamesEntry : (ℕ → Type 0) → StringFault → Type 0
 NamesEntry P (faults.At number) = P number
 NamesEntry P (faults.Memory error) = Unit {0}

@@ -1,5 +1,5 @@
--- The pieces of an inner string: groups of adjacent letters, digits and `_`; single other bytes; and the end of the
--- string.
+-- The pieces of a string in a BSDL text: groups of adjacent letters, digits and `_`; single other
+-- bytes; and the end of the string.
 use Rattle.std.specs.Prelude.{ℕ, ◌==◌, List, [], ◌∷◌, Bool, true, false, ◌&&◌, ◌||◌, if◌then◌else◌}
 use Rattle.std.specs.Char.{is_ascii_alphanumeric}
 
@@ -21,18 +21,19 @@ abbrev pub starts_blank : List ℕ → Bool
 starts_blank [] = false
 starts_blank (byte ∷ bytes) = is_string_blank byte
 
--- the pieces after `byte` is put in front of the first piece; if there are no pieces, `byte` is the
+-- the pieces, with `byte` added in front of the first piece; if there are no pieces, `byte` is the
 -- only piece
 abbrev pub longer : ℕ → List (List ℕ) → List (List ℕ)
 longer byte [] = (byte ∷ []) ∷ []
 longer byte (piece ∷ pieces) = (byte ∷ piece) ∷ pieces
 
--- the piece is the end of the string, which is the empty piece
+-- the piece is empty, which means that it is the end of the string
 abbrev pub is_end : List ℕ → Bool
 is_end [] = true
 is_end (byte ∷ bytes) = false
 
--- The pieces of a text, of which the last is the end. Blanks separate pieces and belong to none.
+-- The pieces of a text, of which the last is the end of the text. Blanks separate pieces and belong
+-- to none.
 unfoldable pub pieces : List ℕ → List (List ℕ)
 pieces [] = [] ∷ []
 pieces (byte ∷ bytes) =

@@ -1,5 +1,5 @@
--- The grammars of single pieces: which pieces fit, and the value of a piece that fits. The case of
--- letters does not matter, and names are in upper case.
+-- Grammars of one piece each. A grammar says which pieces it accepts, and what value an accepted
+-- piece has. The case of letters does not matter, and names are in upper case.
 use Rattle.std.specs.Prelude.{ℕ, ◌==◌, List, [], ◌∷◌, length, map, reverse, Bool, true, false, ◌&&◌, ◌||◌, if◌then◌else◌, Option, Some, None, nat_lt, codes}
 use Rattle.std.specs.List.{list_all}
 use Rattle.std.specs.Str.{bytes_eq}
@@ -87,7 +87,7 @@ is_result word =
     bytes_eq word (codes "Z") || (bytes_eq word (codes "WEAK0") || (bytes_eq word (codes "WEAK1") ||
     (bytes_eq word (codes "PULL0") || (bytes_eq word (codes "PULL1") || bytes_eq word (codes "KEEPER")))))
 
--- the grammar of a part of a string
+-- a grammar of a part of a string, with values of type `A`
 abbrev pub Part : Type 0 → Type 1
 Part A = Grammar (List ℕ) A
 
@@ -146,8 +146,8 @@ role = place (λ piece. role_of (upper piece))
 abbrev pub result_word : Part (Unit {0})
 result_word = place (λ piece. some_if (is_result (upper piece)) tt)
 
--- The mark after the port name of a compliance bit. The value is None if an index follows, Some true if another bit follows, and
--- Some false if the list ends.
+-- The mark after the port name of a compliance bit. The value is None if an index follows, Some
+-- true if another bit follows, and Some false if the list ends.
 abbrev pub after_bit : Part (Option Bool)
 after_bit =
     place

@@ -45,8 +45,8 @@ opcode = do
   codes ← list_of code comma_or_close
   done (record { name = name; codes = codes })
 
--- The rest of a place after its port name and the mark behind the name. After "(" the rest is index
--- ")" ",". After "," nothing more is read.
+-- The rest of a place after its port name and the next mark. After "(" the rest is index ")" ",".
+-- After "," nothing more is read.
 abbrev pub indexed : List ℕ → Bool → Part PortWord
 indexed name false = done (Plain name)
 indexed name true = do
@@ -109,7 +109,7 @@ entry = do
   ctl ← control
   done (record { num = num; port = port; role = role; safe = safe; ctl = ctl })
 
--- the rest of a compliance bit after its port name and the mark behind the name
+-- the rest of a compliance bit after its port name and the next mark
 abbrev pub bit_behind : List ℕ → Option Bool → Part (PortWord × Bool)
 bit_behind name (Some more) = done (Plain name, more)
 bit_behind name None = do
@@ -126,7 +126,7 @@ bit = do
   next ← after_bit
   bit_behind name next
 
--- one bit and the mark behind it, which is a comma if another bit follows
+-- one bit and the mark after it, which is a comma if another bit follows
 unfoldable pub bit_turn : List PortWord → Part (Turn (List PortWord) (List PortWord))
 bit_turn before = do
   one ← bit
@@ -162,8 +162,8 @@ compliance = do
 abbrev pub IsListOf : {A : Type 0} → Part A → List ℕ → List A → Type 0
 IsListOf entry text values = (production_of (list_of entry comma_or_end)).Whole (pieces text) values
 
--- The string is not a list of these entries, and goes wrong at entry `number`, counted from 1. Each
--- entry before it is whole and followed by a comma.
+-- The string is not a list of these entries. Entry `number`, counted from 1, is the first wrong
+-- entry: each entry before it is whole and followed by a comma.
 abbrev pub IsNoListOf : {A : Type 0} → Part A → List ℕ → ℕ → Type 0
 IsNoListOf entry text number = GoesWrongAt entry comma_or_end number (pieces text)
 
@@ -171,7 +171,7 @@ IsNoListOf entry text number = GoesWrongAt entry comma_or_end number (pieces tex
 abbrev pub IsPinMap : List ℕ → List MapEntry → Type 0
 IsPinMap text = IsListOf map_entry text
 
--- the string is not a pin map, and goes wrong at entry `number`, counted from 1
+-- the string is not a pin map, and entry `number`, counted from 1, is the first wrong entry
 abbrev pub IsNoPinMap : List ℕ → ℕ → Type 0
 IsNoPinMap text = IsNoListOf map_entry text
 
@@ -179,7 +179,7 @@ IsNoPinMap text = IsNoListOf map_entry text
 abbrev pub AreOpcodes : List ℕ → List Opcode → Type 0
 AreOpcodes text = IsListOf opcode text
 
--- the string is not an opcode string, and goes wrong at entry `number`, counted from 1
+-- the string is not an opcode string, and entry `number`, counted from 1, is the first wrong entry
 abbrev pub AreNoOpcodes : List ℕ → ℕ → Type 0
 AreNoOpcodes text = IsNoListOf opcode text
 
@@ -187,7 +187,8 @@ AreNoOpcodes text = IsNoListOf opcode text
 abbrev pub IsBoundary : List ℕ → List Entry → Type 0
 IsBoundary text = IsListOf entry text
 
--- the string is not a boundary register, and goes wrong at entry `number`, counted from 1
+-- the string is not a boundary register, and entry `number`, counted from 1, is the first wrong
+-- entry
 abbrev pub IsNoBoundary : List ℕ → ℕ → Type 0
 IsNoBoundary text = IsNoListOf entry text
 

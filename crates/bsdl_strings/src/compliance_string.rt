@@ -35,7 +35,8 @@ fn bit_from(
     }
 }
 
-/// Reads a compliance bit and the mark behind it. Returns the bit, and whether another bit follows.
+/// Reads a port bit and the mark after it. Returns the bit, whether another bit follows, and the
+/// text after the mark.
 #[tactic(auto, unfolding(crate::specs::Strings::bit))]
 fn bit(alloc: Global, text: &[u8]) -> Result<((PortWord, bool), &[u8]), Stop<'_>>
     ensures { ReadsPieces (λ x. found x.0 (pieces x.1.now)) result
@@ -86,8 +87,8 @@ fn second_parenthesis(alloc: Global, text: &[u8]) -> Result<Items<Code>, Stop<'_
 /// Returns the value of a compliance string: the compliance bits, and the patterns that enable the
 /// test logic.
 ///
-/// Returns `StringFault::At` if the text is not a compliance string. The number is 2 if the text
-/// begins with a whole parenthesis of bits, and otherwise 1.
+/// Returns `StringFault::At` if the text is not a compliance string. The number in the fault is 2
+/// if the text begins with a whole parenthesis of bits, and otherwise 1.
 pub fn compliance(alloc: Global, text: &[u8]) -> Result<Compliance, StringFault>
     ensures value { IfOk result (λ value. IsCompliance text.now value) }
     ensures fault { IfErr result (NamesEntry (IsNoCompliance text.now)) }

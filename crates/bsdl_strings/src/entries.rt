@@ -65,7 +65,8 @@ pub(crate) fn map_entry(alloc: Global, text: &[u8]) -> Result<(MapEntry, &[u8]),
     Ok((MapEntry { port, pins }, rest))
 }
 
-/// Returns the pin `first`. If `first` is None, reads the pins of a group instead.
+/// Returns `first` if it is a pin. If it is None, reads the pins of a group up to and including the
+/// closing parenthesis.
 fn pins_from(
     alloc: Global,
     first: Option<Name>,
@@ -99,8 +100,9 @@ pub(crate) fn opcode(alloc: Global, text: &[u8]) -> Result<(Opcode, &[u8]), Stop
     Ok((Opcode { name, codes }, rest))
 }
 
-/// Reads the rest of a place after its port name and the mark behind the name. `opens` says whether
-/// this mark is an opening parenthesis.
+/// Reads the rest of an entry's port after the port name and the mark that follows it. If `opens`
+/// is true, this mark is an opening parenthesis, and an index, a closing parenthesis and a comma
+/// follow. Otherwise the mark is a comma, and nothing more is read.
 fn indexed(name: Name, opens: bool, text: &[u8]) -> Result<(PortWord, &[u8]), Stop<'_>>
     ensures { ReadsPieces (λ x. found x.0 (pieces x.1.now)) result
         (reader_of_grammar (index_after name opens) (pieces text.now)) }
@@ -128,7 +130,7 @@ fn place_from(first: Option<Name>, text: &[u8]) -> Result<(PortWord, &[u8]), Sto
     }
 }
 
-/// Reads the place of an entry and the comma after it.
+/// Reads the port of an entry (`*`, a port, or a port with an index) and the comma after it.
 #[tactic(auto, unfolding(crate::specs::Strings::port_place))]
 fn port_place(alloc: Global, text: &[u8]) -> Result<(PortWord, &[u8]), Stop<'_>>
     ensures { ReadsPieces (λ x. found x.0 (pieces x.1.now)) result
@@ -156,7 +158,7 @@ fn control_from(comes: bool, text: &[u8]) -> Result<(Option<Control>, &[u8]), St
 }
 
 /// Reads the rest of an entry after its safe value, up to and including the closing parenthesis.
-/// Returns the control, if there is one.
+/// Returns the control cell and the disable value, if the entry has them.
 #[tactic(auto, unfolding(crate::specs::Strings::control))]
 fn control(text: &[u8]) -> Result<(Option<Control>, &[u8]), Stop<'_>>
     ensures { ReadsPieces (λ x. found x.0 (pieces x.1.now)) result

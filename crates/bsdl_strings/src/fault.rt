@@ -1,12 +1,12 @@
-//! The reasons for which a string has no value.
+//! The reasons why a string has no value.
 ghost use Rattle.std.specs.Prelude.{◌≡◌, alloc_error};
 ghost use Rattle.bsdl_strings.specs.declared.fault.StringFault.TheVariants.{Memory};
 
 use std::alloc::{AllocError, AllocFailed};
 use thiserror::Error;
 
-/// The reason for which a string has no value: the entry at which the string leaves its grammar, or
-/// lack of memory.
+/// The reason why a string has no value: the first entry that does not fit the grammar, or lack of
+/// memory.
 #[derive(Clone, Copy, Debug, PartialEq, Eq, Error)]
 pub enum StringFault {
     /// The number of the first wrong entry, counted from 1. Each entry before it is whole and

@@ -1,4 +1,5 @@
-//! Reads the pieces of an inner string one at a time.
+//! Splits a string of a BSDL text into pieces: groups of letters, digits and `_`, and single other
+//! bytes. Blanks separate pieces.
 ghost use Rattle.std.specs.Prelude.{◌≡◌, [], ◌∷◌, length, MatchOption, IfSome, true, false, ◌≤◌};
 ghost use Rattle.std.specs.List.{take_while};
 ghost use Rattle.bsdl_strings.specs.Pieces.{is_string_blank, is_word_byte, starts_word, starts_blank, is_end, pieces};
@@ -37,7 +38,8 @@ fn past_blanks(text: &[u8]) -> &[u8]
     text.split_at(blanks(text)).1
 }
 
-/// Returns the letters, digits and `_` at the front, and the text after them.
+/// Returns the letters, digits and `_` at the front, and the text after them. The text must begin
+/// with one of these bytes.
 fn word_piece(text: &[u8]) -> (&[u8], &[u8])
     requires { starts_word text.now ≡ true }
     ensures pieces { pieces text.now ≡ result.0.now ∷ pieces result.1.now }
@@ -67,8 +69,8 @@ pub(crate) fn next_piece(text: &[u8]) -> Option<(&[u8], &[u8])>
     }
 }
 
-/// Returns the text after `mark` if the first byte is `mark`. If the result is None, the next piece
-/// may still be the mark, after blanks.
+/// Returns the text after `mark` if the first byte is `mark`. This test is faster than
+/// `next_piece`. If the result is None, the next piece may still be the mark, after blanks.
 #[inline]
 #[tactic(auto, unfolding(crate::specs::Pieces::pieces))]
 pub(crate) fn after_mark(text: &[u8], mark: u8) -> Option<&[u8]>

@@ -1,4 +1,5 @@
-//! Functions that read one piece of a text. Each returns the value of the piece and the text after it.
+//! Functions that read one piece of a text. Each returns the value of the piece and the text after
+//! it, or `Stop::At` if the piece does not fit.
 ghost use Rattle.std.specs.Prelude.{◌≡◌, ◌-◌, ◌*◌, ◌<◌, ◌≤◌, ◌^◌, [], length, IfOk};
 ghost use Rattle.std.specs.List.{list_all, take_while};
 ghost use Rattle.grammars.specs.inner.Reader.{found};
@@ -87,7 +88,8 @@ fn symbols_from(alloc: Global, piece: &[u8]) -> Result<Vec<Symbol>, AllocError>
     piece.iter().rev().map(|byte| symbol(*byte)).collect(alloc)
 }
 
-/// Returns the code that the characters of the piece spell.
+/// Returns the code that the characters of the piece spell. The rightmost character is the code's
+/// first symbol. The piece must be shorter than 2^32 bytes.
 pub(crate) fn code_from(alloc: Global, piece: &[u8]) -> Result<Code, AllocError>
     requires { length piece.now < 2 ^ 32 }
     ensures { IfOk result (λ code. code ≡ code_of piece.now) }
@@ -300,8 +302,8 @@ fn names_result(piece: &[u8]) -> bool
         || spells(piece, b"KEEPER")
 }
 
-/// Reads a disable result, which is the state of a disabled driver. In all states that the grammar
-/// allows, the driver does not drive.
+/// Reads a disable result, which is the state of a disabled driver. Its value is not returned,
+/// because the driver does not drive in any state that the grammar allows.
 pub(crate) fn result_of_disabling(text: &[u8]) -> Result<&[u8], Stop<'_>>
     ensures { ReadsPieces (λ rest. found tt (pieces rest.now)) result
         (reader_of_grammar result_word (pieces text.now)) }
@@ -312,7 +314,7 @@ pub(crate) fn result_of_disabling(text: &[u8]) -> Result<&[u8], Stop<'_>>
     }
 }
 
-/// Reads the mark behind the port name of a compliance bit. Returns None if an index follows.
+/// Reads the mark after the port name of a compliance bit. Returns None if an index follows.
 /// Otherwise returns whether another bit follows.
 pub(crate) fn mark_after_bit(text: &[u8]) -> Result<(Option<bool>, &[u8]), Stop<'_>>
     ensures { ReadsPieces (λ x. found x.0 (pieces x.1.now)) result

@@ -1,11 +1,11 @@
-//! The reasons for which reading stops.
+//! The reasons why reading stops.
 ghost use Rattle.std.specs.Prelude.{◌≡◌, alloc_error};
 ghost use Rattle.bsdl_strings.specs.declared.stop.Stop.TheVariants.{Memory};
 
 use std::alloc::{AllocError, AllocFailed};
 
-/// The reason for which reading stops: memory ran out, or a piece does not fit the grammar. `At`
-/// has the text from that piece on.
+/// The reason why reading stops: memory ran out, or a piece does not fit the grammar. `At` contains
+/// the text from that piece to the end.
 #[derive(Drop)]
 pub(crate) enum Stop<'a> {
     Memory(AllocError),

@@ -1,4 +1,4 @@
-//! Reads lists of entries, and patterns.
+//! Reads pin maps, opcode strings, boundary registers and patterns.
 ghost use Rattle.std.specs.Prelude.{◌≡◌, ◌<◌, ◌^◌, length, IfOk, IfErr};
 ghost use Rattle.bsdl_strings.specs.Faults.{stop_fault, NamesEntry};
 ghost use Rattle.bsdl_strings.specs.Strings.{IsPinMap, IsNoPinMap, AreOpcodes, AreNoOpcodes, IsBoundary, IsNoBoundary, IsPattern, IsNoPattern};
@@ -11,7 +11,8 @@ use crate::values::{Entry, MapEntry, Opcode};
 use board_defs::Code;
 use std::alloc::Global;
 
-/// Returns the fault of a list if reading stopped after `entries` whole entries.
+/// Returns the fault of a list if reading stopped after `entries` whole entries. `entries` must be
+/// below 2^31.
 pub(crate) fn fault(stop: Stop<'_>, entries: usize) -> StringFault
     requires { entries < 2 ^ 31 }
     ensures { result ≡ stop_fault stop.entry entries }
@@ -22,9 +23,11 @@ pub(crate) fn fault(stop: Stop<'_>, entries: usize) -> StringFault
     }
 }
 
-/// Returns the entries of a pin map in order. Each entry is a port with its pins.
+/// Returns the entries of a pin map in order. Each entry is a port with its pins. The text must be
+/// shorter than 2^32 bytes.
 ///
-/// Returns `StringFault::At` with the number of the first wrong entry, counted from 1, if the text is not a pin map.
+/// Returns `StringFault::At` with the number of the first wrong entry, counted from 1, if the text
+/// is not a pin map.
 pub fn pin_map(alloc: Global, text: &[u8]) -> Result<Vec<MapEntry>, StringFault>
     requires { length text.now < 2 ^ 32 }
     ensures value { IfOk result (λ maps. IsPinMap text.now maps.items) }
@@ -51,9 +54,10 @@ pub fn pin_map(alloc: Global, text: &[u8]) -> Result<Vec<MapEntry>, StringFault>
 }
 
 /// Returns the entries of an opcode string in order. Each entry is an instruction with its codes.
+/// The text must be shorter than 2^32 bytes.
 ///
-/// Returns `StringFault::At` with the number of the first wrong entry, counted from 1, if the text is not an opcode
-/// string.
+/// Returns `StringFault::At` with the number of the first wrong entry, counted from 1, if the text
+/// is not an opcode string.
 pub fn opcodes(alloc: Global, text: &[u8]) -> Result<Vec<Opcode>, StringFault>
     requires { length text.now < 2 ^ 32 }
     ensures value { IfOk result (λ ops. AreOpcodes text.now ops.items) }
@@ -79,10 +83,10 @@ pub fn opcodes(alloc: Global, text: &[u8]) -> Result<Vec<Opcode>, StringFault>
     }
 }
 
-/// Returns the entries of a boundary register in order.
+/// Returns the entries of a boundary register in order. The text must be shorter than 2^32 bytes.
 ///
-/// Returns `StringFault::At` with the number of the first wrong entry, counted from 1, if the text is not a boundary
-/// register.
+/// Returns `StringFault::At` with the number of the first wrong entry, counted from 1, if the text
+/// is not a boundary register.
 pub fn boundary(alloc: Global, text: &[u8]) -> Result<Vec<Entry>, StringFault>
     requires { length text.now < 2 ^ 32 }
     ensures value { IfOk result (λ cells. IsBoundary text.now cells.items) }
@@ -109,10 +113,11 @@ pub fn boundary(alloc: Global, text: &[u8]) -> Result<Vec<Entry>, StringFault>
 }
 
 /// Returns the code that a pattern spells. The rightmost character of the pattern is the symbol
-/// nearest TDO. A pattern has no blanks, not even at its ends.
+/// nearest TDO. A pattern has no blanks, not even at its ends. The text must be shorter than 2^32
+/// bytes.
 ///
-/// Returns `StringFault::At` if the text is not a pattern. The number is the place of the first
-/// character that is not 0, 1 or X, counted from 1, or 1 for an empty text.
+/// Returns `StringFault::At` if the text is not a pattern. The number in the fault is the place of
+/// the first character that is not 0, 1 or X, counted from 1, or 1 for an empty text.
 pub fn pattern(alloc: Global, text: &[u8]) -> Result<Code, StringFault>
     requires { length text.now < 2 ^ 32 }
     ensures value { IfOk result (λ code. IsPattern text.now code) }

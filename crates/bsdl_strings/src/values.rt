@@ -19,7 +19,7 @@ pub struct Opcode {
 /// A port bit as a string names it.
 #[derive(Debug, Drop)]
 pub enum PortWord {
-    /// `*`, which stands in place of a port if the cell has none.
+    /// `*`, which means that the cell has no port.
     Star,
     /// A port without an index.
     Plain(Name),
@@ -33,7 +33,7 @@ pub struct Entry {
     /// The number of the boundary cell. Cell 0 is nearest TDO.
     pub num: u32,
     pub port: PortWord,
-    /// The function of the entry.
+    /// The function of the cell in this entry.
     pub role: Role,
     /// The value that the designer wants in the cell if no test uses the cell.
     pub safe: Symbol,

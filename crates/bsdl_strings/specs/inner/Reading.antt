@@ -6,8 +6,8 @@ use Rattle.bsdl_strings.specs.declared.stop.Stop.{Stop}
 use Rattle.bsdl_strings.specs.declared.stop.Stop.TheVariants.{Memory, At}
 use Rattle.bsdl_strings.specs.Pieces.{pieces}
 
--- either the reader refuses the pieces from the piece that does not fit, whose text the function
--- returns, or memory ran out
+-- the function stopped because the reader refuses the pieces of the text in `At`, or because memory
+-- ran out
 abbrev pub StopsOn : {A : Type 0} → Stop → Outcome (List ℕ) A → Type 0
 StopsOn (Memory error) outcome = Unit {0}
 StopsOn (At rest) outcome = outcome ≡ refused (pieces rest.now)
