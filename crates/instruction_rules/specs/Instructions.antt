@@ -91,7 +91,9 @@ abbrev pub extest_holds : Edition → List Opcode → Bool
 extest_holds Old ops = has_code fits_zero (opcode_called (codes "EXTEST") ops)
 extest_holds Of2001 ops = may_extest (first_code (codes "EXTEST") ops) (listed_preload_code Of2001 ops)
 
--- V6: the first instruction without a usable code: 1 for the preload instruction, 2 for EXTEST, and 3 for BYPASS
+-- V6: the first instruction without a usable code: 1 for the preload instruction (`may_preload`), 2
+-- for EXTEST (`extest_holds`), and 3 for BYPASS, which needs a code that matches all ones if it is
+-- listed
 unfoldable pub v6 : Edition → List Opcode → Option ℕ
 v6 edition ops =
     if not (may_preload edition (listed_preload_code edition ops)) then Some 1 else
@@ -128,8 +130,8 @@ settled_code (Some code) = map settled code
 unfoldable pub preload : Edition → List Opcode → List Symbol
 preload edition ops = settled_code (listed_preload_code edition ops)
 
--- The EXTEST code, with 0 in place of each X. In the old edition it has only zeros. In the 2001
--- edition it is the first code that the description lists.
+-- The EXTEST code, with 0 in place of each X. In the old edition it consists of `ir` zeros. In the
+-- 2001 edition it is the first code that the description lists.
 unfoldable pub extest : Edition → ℕ → List Opcode → List Symbol
 extest Old ir ops = replicate ir Zero
 extest Of2001 ir ops = settled_code (first_code (codes "EXTEST") ops)

@@ -168,8 +168,14 @@ fn bypass_is_right(ops: &[Opcode]) -> bool
     }
 }
 
-/// Checks rule V6. Returns the first instruction without a usable code: 1 for the preload instruction, 2 for EXTEST,
-/// and 3 for BYPASS. BYPASS need not be listed. In the old edition EXTEST need not be listed either.
+/// Checks rule V6. Returns the first instruction without a usable code: 1 for the preload
+/// instruction, 2 for EXTEST, and 3 for BYPASS.
+///
+/// The preload code must be listed and have a 0, and in the old edition also a 1. In the old
+/// edition, EXTEST need not be listed; if it is listed, one of its codes must match all zeros. In
+/// the 2001 edition, EXTEST must be listed, and its first code must have a 0 and differ from the
+/// preload code. BYPASS need not be listed; if it is listed, one of its codes must match all ones.
+/// X matches both bits, but counts as 0 in the preload code and in the first EXTEST code.
 #[tactic(auto, unfolding(crate::specs::Instructions::v6))]
 pub fn wrong_instruction(edition: Edition, ops: &[Opcode]) -> Option<u32>
     ensures { result ≡ v6 edition ops.now }
@@ -232,7 +238,8 @@ fn are_long(length: u32, codes: &[Code]) -> bool
 }
 
 /// Checks rule V5. Returns the number of the first wrong opcode, counted from 1. An opcode is wrong
-/// if an earlier opcode has the same name, or if one of its codes does not have `ir` symbols.
+/// if an earlier opcode has the same name, or if one of its codes does not have `ir` symbols. There
+/// must be fewer than 2^32 opcodes.
 #[tactic(auto, unfolding(crate::specs::Instructions::v5))]
 pub fn wrong_opcode(alloc: Global, ir: u32, ops: &[Opcode]) -> Result<Option<u32>, AllocError>
     requires { length ops.now < 2 ^ 32 }
@@ -286,8 +293,8 @@ pub fn preload(alloc: Global, edition: Edition, ops: &[Opcode]) -> Result<Code, 
     settled_code(alloc, preload_code(edition, ops))
 }
 
-/// Returns the EXTEST code, with 0 in place of each X. In the old edition it has only zeros. In the
-/// 2001 edition it is the first code that the description lists.
+/// Returns the EXTEST code, with 0 in place of each X. In the old edition it consists of `ir`
+/// zeros. In the 2001 edition it is the first code that the description lists.
 #[tactic(auto, unfolding(crate::specs::Instructions::extest))]
 pub fn extest(alloc: Global, edition: Edition, ir: u32, ops: &[Opcode]) -> Result<Code, AllocError>
     ensures { IfOk result (λ code. code ≡ extest edition ir ops.now) }
