@@ -1,4 +1,4 @@
--- The numbers of port bits.
+-- Lemmas about the numbers of port bits.
 use Rattle.std.proofs.Common.{◌≡◌, ℕ, zero, suc, ◌+◌, ◌<◌, ◌≤◌, Bool, true, false, ◌&&◌, ◌||◌, cond, not, List, [], ◌∷◌, ◌++◌, length, take, drop, get_or, Option, Some, None, refl, sym, ap, subst, ◌∙◌, arith, nat_lt}
 use Rattle.std.specs.Prelude.{if◌then◌else◌, option_map, slice_get, find}
 use Rattle.std.specs.List.{list_any, position_from, position_or_len}
@@ -22,8 +22,6 @@ use Rattle.device_rules.proofs.RangeLemmas.{place_found, place_within, length_in
 use Rattle.device_rules.proofs.RuleLemmas.{holds}
 use Rattle.device_rules.proofs.IsDeviceLists.{none_has}
 
--- the first place in two joined lists of an item that passes is the place in the first list, or, if
--- no item of that list passes, the place in the second list plus the length of the first
 place_append_by : {A : Type 0} (p : A → Bool) (n : ℕ) (xs ys : List A) (b : Bool)
     → position_from p (n + 1) (xs ++ ys)
     ≡ or_else (position_from p (n + 1) xs) (position_from p (n + 1 + length xs) ys)
@@ -83,7 +81,6 @@ abbrev pub Apart : List Port → Type 0
 Apart [] = Unit {0}
 Apart (port ∷ ports) = (range_in_order port.range ≡ true) × (list_any (port_named port.name) ports ≡ false) × Apart ports
 
--- if a port's range is in order, the port has as many bits as its range is wide
 pub length_bits : (number : ℕ) (port : Port) → range_in_order port.range ≡ true → length (bits_in_port number port) ≡ width port.range
 length_bits number port e = length_along number port 0 (indexes port.range) ∙ length_indexes port.range e
 
@@ -91,7 +88,7 @@ none_else : {A : Type 0} (o : Option A) → or_else o None ≡ o
 none_else None = refl
 none_else (Some a) = refl
 
--- the number of the bit with this name and index, found port by port, if the bits are numbered from
+-- the number of the bit with this name and index, found port by port; the bits are numbered from
 -- `start` on
 abbrev located : List ℕ → Option ℕ → ℕ → List Port → Option ℕ
 located name at start [] = None
@@ -136,8 +133,6 @@ located_is name at number start (port ∷ ports) apart =
     located_by name at number start port ports (bytes_eq port.name name) refl apart
     (located_is name at (number + 1) (start + width port.range) ports apart.2)
 
--- the step for one item: if a search in the later items that begins with a number one higher finds
--- a place one higher, so does a search in all items
 place_later_by : {A : Type 0} (p : A → Bool) (n : ℕ) (x : A) (xs : List A) (b : Bool)
     → position_from p (n + 1 + 1) xs ≡ option_map (λ k. k + 1) (position_from p (n + 1) xs)
     → cond b (Some (n + 1)) (position_from p (n + 1 + 1) xs)
@@ -289,13 +284,10 @@ kept_from : (before ports : List Port) → first_from breaks_port before ports �
 kept_from before [] e = (tt, tt)
 kept_from before (port ∷ ports) e = kept_by before port ports (breaks_port before port) refl (kept_from (before ++ port ∷ []) ports) e
 
--- if V2 holds, no two ports have the same name, and each port's range is in order
 pub apart : (ports : List Port) → v2 ports ≡ None → Apart ports
 unfolding v2
 apart ports e = (kept_from [] ports e).1
 
--- if no two ports have the same name, a port with this name at place `n` is the first that has the
--- name
 pub is_first : (name : List ℕ) (ports : List Port) (n : ℕ) (port : Port) → Apart ports
     → slice_get ports n ≡ Some port → bytes_eq port.name name ≡ true
     → position_from (port_named name) 0 ports ≡ Some n
@@ -313,8 +305,6 @@ is_first name (first ∷ ports) (suc n) port h at is =
     differs : bytes_eq port.name first.name ≡ false → bytes_eq port.name name ≡ true → bytes_eq first.name name ≡ false
     differs e f = grind (arith, bytes_eq-Decides)
 
--- if `n` is the first place of an item that passes, `n` is below the length of the list, and item
--- `n` is the one that `find` returns
 at_by : {A : Type 0} (p : A → Bool) (xs : List A) (n : ℕ) (b : Bool)
     → nat_lt (position_or_len p xs) (length xs) ≡ b
     → cond b (Some (position_or_len p xs)) None ≡ Some n
@@ -343,7 +333,6 @@ nothing_by p xs false e f = sym (find_at p xs ∙ slice_get_past xs (position_or
 pub nothing_found : {A : Type 0} (p : A → Bool) (xs : List A) → position_from p 0 xs ≡ None → None ≡ find p xs
 nothing_found p xs e = nothing_by p xs (nat_lt (position_or_len p xs) (length xs)) refl (position_from-zero p xs ∙ e)
 
--- if V2 holds, ports `0..=i` together have at most 65,535 bits
 pub bits_few : (ports : List Port) (i : ℕ) (port : Port) → v2 ports ≡ None → i < length ports
     → get_or ports i port ≡ port → bit_total (take i ports) + width port.range ≤ most_bits
 unfolding v2
@@ -358,8 +347,6 @@ bits_few ports i port e less is =
     few : (n : ℕ) → nat_lt most_bits n ≡ false → n ≤ most_bits
     few n e = grind (arith, nat_tests)
 
--- the number of bits of ports `0..=i` is the number of bits of ports `0..i` plus the width of port
--- `i`'s range
 pub bits_more : (ports : List Port) (i : ℕ) (port : Port) → i < length ports
     → get_or ports i port ≡ port
     → bit_total (take (i + 1) ports) ≡ bit_total (take i ports) + width port.range
@@ -419,8 +406,6 @@ bit_fits ports name at n k start port kept e is here before =
     let within = place_within port.range at k here in
     omega (arith, few, within, before)
 
--- if the index has place `k` in the range of port `n`, and `start` is the number of bits before
--- port `n`, `start + k` is less than the number of all bits
 pub bit_within : (ports : List Port) (name : List ℕ) (at : Option ℕ) (n k start : ℕ) (port : Port)
     → position_from (port_named name) 0 ports ≡ Some n → get_or ports n port ≡ port
     → index_place port.range at ≡ Some k → start ≡ bit_total (take n ports) → start + k < bit_total ports
@@ -434,6 +419,5 @@ star_by : (n : ℕ) (bits : List Bit) → position_from (is_named Star) n bits �
 star_by n [] = refl
 star_by n (bit ∷ bits) = star_by (n + 1) bits
 
--- `*` names no port bit
 pub star_bit : (ports : List Port) → bit_number ports Star ≡ None
 star_bit ports = star_by 0 (all_port_bits ports)

@@ -19,17 +19,13 @@ use Rattle.device_rules.specs.Cells.{is_entry_of, is_entry_of_control, has_contr
 another_cell : (cell boundary : ℕ) (entry : Entry) → boundary ≤ cell → entry.num < boundary → is_entry_of_control cell entry ≡ false
 another_cell cell boundary entry le lt = ap (λ b. b && is_controlling entry.role) (lt-eqb entry.num cell (omega arith))
 
--- if the number of each entry's cell is below the length of the register, a cell number that is not
--- below it has no CONTROL or CONTROLR entry
 no_control_there : (cell boundary : ℕ) (entries : List Entry) → boundary ≤ cell
     → All (λ entry. entry.num < boundary) entries → false ≡ has_control_entry entries cell
 no_control_there cell boundary entries le below = sym (list_any_none (is_entry_of_control cell) entries
     (All-weaker (λ entry. entry.num < boundary) (λ entry. is_entry_of_control cell entry ≡ false)
     (λ entry lt. another_cell cell boundary entry le lt) entries below))
 
--- if each flag says whether its cell of the register has a CONTROL or CONTROLR entry, a look-up in
--- the flags says so for every cell number, since a number past the register has no flag and no
--- entry
+-- a cell number past the register has no flag and no entry, so the look-up is right for it too
 pub controls_known : (boundary : ℕ) (entries : List Entry) (flags : List Bool)
     → All (λ entry. entry.num < boundary) entries
     → MarksItems is_entry_of_control entries boundary flags → (cell : ℕ)
@@ -62,20 +58,16 @@ first_none : (a b : Option ℕ) → or_else a b ≡ None → a ≡ None
 first_none None b e = refl
 first_none (Some n) b e = e
 
--- if V8 holds, each entry's cell number is below the length of the register
 pub all_below : (boundary : ℕ) (entries : List Entry) → v8 boundary entries ≡ None → All (λ entry. entry.num < boundary) entries
 unfolding v8
 all_below boundary entries e = none_too_large boundary entries (first_none (too_large boundary entries) _ e)
 
--- different numbers do not pass the test of equality
 apart : (m n : ℕ) → n ≢ m → (m == n) ≡ false
 apart m n h = grind (arith, nat_tests)
 
--- an entry whose function is of the kind is counted for its own cell
 pub counts_here : (kind : Role → Bool) (entry : Entry) → kind entry.role ≡ true → (is_entry_of entry.num entry && kind entry.role) ≡ true
 counts_here kind entry e = ap (λ b. b && kind entry.role) (eqb_refl entry.num) ∙ e
 
--- an entry is not counted for any cell other than its own
 pub counts_nowhere_else : (kind : Role → Bool) (entry : Entry) (n : ℕ) → n ≢ entry.num → (is_entry_of n entry && kind entry.role) ≡ false
 counts_nowhere_else kind entry n h = ap (λ b. b && kind entry.role) (apart entry.num n h)
 

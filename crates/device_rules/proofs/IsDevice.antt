@@ -30,8 +30,6 @@ pins_differ : (draft : Draft) → PortsStand draft.ports → v4 draft.ports draf
 unfolding raw_bits
 pins_differ draft stand e = pins_apart draft.ports draft.map draft.taps draft.compliance stand e
 
--- if a draft breaks no rule and its lengths are in their ranges, its record keeps the rules of
--- devices
 pub device_is : (draft : Draft) → HasLengths draft → first_rule draft ≡ None → IsDevice (raw_device draft)
 device_is draft lengths none =
     let kept : KeepsRules draft = keeps_rules draft none in
@@ -59,6 +57,5 @@ device_is draft lengths none =
       fits_ports = fits_ports draft stand kept.v14;
     }
 
--- like `device_is`, but for a record that is equal to the record of the draft
 pub device_of : (draft : Draft) (raw : RawDevice) → raw ≡ raw_device draft → HasLengths draft → first_rule draft ≡ None → IsDevice raw
 device_of draft raw made lengths none = subst IsDevice (sym made) (device_is draft lengths none)

@@ -23,8 +23,6 @@ use Rattle.device_rules.proofs.IsDeviceLists.{all_alike, made_at}
 use Rattle.device_rules.proofs.IsDevicePorts.{PortsStand, IsBitOf, is_bit_of, is_of_port}
 use Rattle.device_rules.proofs.IsDevicePins.{is_mapped}
 
--- if the test `p` of `f x` always agrees with the test `q` of `x`, filtering `map f xs` by `p`
--- gives the same list as mapping the list `xs` filtered by `q`
 filter_made : {X Y : Type 0} (f : X → Y) (p : Y → Bool) (q : X → Bool) → ((x : X) → p (f x) ≡ q x)
     → (xs : List X) → filter p (map f xs) ≡ map f (filter q xs)
 filter_made f p q same [] = refl
@@ -52,7 +50,6 @@ filter_none p (x ∷ xs) h = ap (λ b. cond b (x ∷ filter p xs) (filter p xs))
 abbrev is_of : ℕ → Bit → Bool
 is_of k bit = bit.port == k
 
--- the bits of all ports that belong to port `k` are exactly the bits of port `k`, in order
 bits_kept : (k first m : ℕ) (ports : List Port) (port : Port) → k ≡ first + m
     → slice_get ports m ≡ Some port → filter (is_of k) (bits_from first ports) ≡ bits_in_port k port
 bits_kept k first m [] port here at = cc at
@@ -112,7 +109,6 @@ rises_from first (port ∷ ports) =
     (lower first (first + 1) (map (λ bit. bit.port) (bits_from (first + 1) ports)) (omega arith)
     (rises_from (first + 1) ports))
 
--- the device's port bits have the same port numbers as the bits from which they are made
 module _ (entries : List MapEntry) (taps : TapPorts) (compliance : Option Compliance) where
   ports_kept : (bits : List Bit) → map (λ bit. bit.port) (map (port_bit entries taps compliance) bits) ≡ map (λ bit. bit.port) bits
   ports_kept [] = refl
@@ -134,7 +130,6 @@ module _ (entries : List MapEntry) (taps : TapPorts) (compliance : Option Compli
       by_range None e = inl e
       by_range (Some range) e = inr (range.left, range.right, e)
 
-  -- the device's port bits with port number `k` are made from the bits of port `k`
   kept_bits : (ports : List Port) (k : ℕ) (port : Port) → slice_get ports k ≡ Some port
       → filter (λ bit. bit.port == k) (map (port_bit entries taps compliance) (all_port_bits ports))
       ≡ map (port_bit entries taps compliance) (bits_in_port k port)
@@ -151,7 +146,6 @@ module _ (entries : List MapEntry) (taps : TapPorts) (compliance : Option Compli
       let r = map_has (port_bit entries taps compliance) (bits_in_port k port) bit h in
       sym (ap (λ (b : PortBit). b.mode) r.2) ∙ (is_of_port k port r.0 r.1).of_mode
 
--- each bit of port `k` is one of the bits of all ports
 of_port_has : (k first m : ℕ) (ports : List Port) (port : Port) → k ≡ first + m
     → slice_get ports m ≡ Some port → (bit : Bit) → Has (bits_in_port k port) bit
     → Has (bits_from first ports) bit

@@ -23,7 +23,6 @@ use Rattle.device_rules.proofs.CellLemmas.{all_below, counts_here}
 use Rattle.device_rules.proofs.IsDeviceCodes.{same_bits}
 use Rattle.device_rules.proofs.IsDeviceLists.{holds_at, Made, made_at, counted_once}
 
--- if V8 holds, the cell numbers of the device's entries are below the length of the register
 pub cells_below : (draft : Draft) → v8 draft.boundary draft.entries ≡ None
     → All (λ entry. entry.num < draft.boundary) (raw_device draft).cells
 unfolding raw_cells
@@ -54,7 +53,6 @@ cells_all draft e cell less =
     let P : ℕ → Type 0 = λ n. Has (map (λ (c : Cell). c.num) (map (cell_of draft.ports) draft.entries)) n in
     has_contains (map (λ (c : Cell). c.num) (map (cell_of draft.ports) draft.entries)) cell (subst P (eqb-true r.0.num cell r.2) has)
 
--- if V10 holds, no entry breaks the rule on controls
 control_kept : (entries : List Entry) → v10 entries ≡ None → (entry : Entry) → Has entries entry → breaks_control entries entry ≡ false
 unfolding v10
 control_kept entries e entry has =
@@ -166,8 +164,6 @@ controls_below draft e8 e10 =
     by_control entry has None is = tt
     by_control entry has (Some control) is = control_below draft.boundary draft.entries e8 e10 entry has control is
 
--- if an entry's control is `cell` with the disable value `value`, then `cell` controls some entry
--- with this value
 disables : (entries : List Entry) (entry : Entry) → Has entries entry → (control : Control)
     → entry.ctl ≡ Some control → (cell : ℕ) → control.cell ≡ cell → (value : Bool)
     → control.disable ≡ value → list_any (controls_entry value cell) entries ≡ true
@@ -182,7 +178,6 @@ two_values : (boundary : ℕ) (entries : List Entry) → v11 boundary entries �
 unfolding v11
 two_values boundary entries e cell less = none_below (has_two_values entries) boundary e cell less
 
--- if V8, V10 and V11 hold, two entries with the same control cell have the same disable value
 pub one_disable : (draft : Draft) → v8 draft.boundary draft.entries ≡ None
     → v10 draft.entries ≡ None → v11 draft.boundary draft.entries ≡ None
     → OneDisable (raw_device draft)

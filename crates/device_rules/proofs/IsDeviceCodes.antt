@@ -63,13 +63,12 @@ preload_long ir Of2001 ops long code e = by_part (either_code (first_code (codes
     by_part (inl h) = code_long ir ops long (codes "PRELOAD") code h
     by_part (inr h) = code_long ir ops long (codes "SAMPLE") code h
 
--- putting 0 in place of X does not change the bit of a symbol, since X counts as 0
+-- `bit_of` counts X as 0
 settled_bit : (s : Symbol) → bit_of (settled s) ≡ bit_of s
 settled_bit Zero = refl
 settled_bit One = refl
 settled_bit Any = refl
 
--- a symbol with 0 in place of X is not X
 settled_given : (s : Symbol) → settled s ≢ Any
 settled_given Zero e = cc e
 settled_given One e = cc e
@@ -103,19 +102,15 @@ same_pairs (x ∷ a) (y ∷ b) e =
     let bits : bit_of x ≡ bit_of y = sym (settled_bit x) ∙ (ap bit_of head ∙ settled_bit y) in
     and_from (same_bit (bit_of x) (bit_of y)) _ (ap (λ v. same_bit v (bit_of y)) bits ∙ same_bits (bit_of y)) (same_pairs a b tail)
 
--- if two codes are equal after 0 is put in place of each X, `same_code`, for which X counts as 0,
--- is true of them
 same_codes : (a b : List Symbol) → map settled a ≡ map settled b → same_code a b ≡ true
 same_codes a b e =
     let lengths : length a ≡ length b = sym (length-map a settled) ∙ (ap length e ∙ length-map b settled) in
     and_from (length a == length b) _ (eq-eqb (length a) (length b) lengths) (same_pairs a b e)
 
--- a code of zeros has no 1
 none_one : (n : ℕ) → list_any bit_of (replicate n Zero) ≡ false
 none_one zero = refl
 none_one (suc n) = none_one n
 
--- a code of at least two zeros is not a code of ones
 not_ones : (n : ℕ) → 2 ≤ n → list_all bit_of (replicate n Zero) ≡ false
 not_ones zero least = absurd (omega arith)
 not_ones (suc n) least = refl
@@ -148,8 +143,8 @@ not_zeros (Some c) code same e =
     ∙ not-false (list_any bit_of c)
     (not-true (is_all_zeros c) (and_parts (not (is_all_zeros c)) (not (is_all_ones c)) e).0)
 
--- the text lists an EXTEST code, some symbol of which counts as 0 and which differs from the
--- preload code
+-- The text lists an EXTEST code. Some symbol of the code counts as 0, and the code differs from the
+-- preload code.
 record Extests (code preload : Option (List Symbol)) : Type 0 where
   own : List Symbol
   is : code ≡ Some own
@@ -162,7 +157,7 @@ extests (Some code) preload e =
     let parts = and_parts (not (is_all_ones code)) (not (is_given_code code preload)) e in
     record { own = code; is = refl; not_ones = not-true (is_all_ones code) parts.0; apart = not-true (is_given_code code preload) parts.1 }
 
--- the rules on the preload code and on the EXTEST code hold
+-- V6 holds for the preload code and for the EXTEST code
 record CodesStand (edition : Edition) (ops : List Opcode) : Type 0 where
   may_load : may_preload edition (listed_preload_code edition ops) ≡ true
   may_test : extest_holds edition ops ≡ true
@@ -197,8 +192,8 @@ idcode_long ir capture idcode e = by_tests (has_length ir capture && ends_in_01 
         by_length true is n = eqb-true (length code) 32 is
         by_length false is n = cc n
 
--- in either edition, the EXTEST code has `ir` symbols, none of which is X and not all of which are
--- 1, and it differs from the preload code; in the old edition, all of its symbols are 0
+-- The EXTEST code has `ir` symbols. None of them is X, and not all of them are 1. The code differs
+-- from the preload code. In the old edition, all of its symbols are 0.
 record ExtestStands (edition : Edition) (ir : ℕ) (ops : List Opcode) : Type 0 where
   long : length (extest edition ir ops) ≡ ir
   given : All (λ s. s ≢ Any) (extest edition ir ops)

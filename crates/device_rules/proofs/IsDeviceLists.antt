@@ -10,14 +10,12 @@ use Rattle.std.proofs.lemmas.Slice.Eq.{bytes_eq-Decides}
 use Rattle.board_defs.proofs.Members.{Has, has_at, has_place, has_append}
 use Rattle.first_places.specs.Items.{KeepsRule}
 
--- the test `bytes_eq` is true of two names if and only if the names are equal
 pub same_name : (a b : List ℕ) → bytes_eq a b ≡ true → a ≡ b
 same_name a b = (bytes_eq-Decides a b).0
 
 pub name_same : (a b : List ℕ) → a ≡ b → bytes_eq a b ≡ true
 name_same a b = (bytes_eq-Decides a b).1
 
--- a list is the items before item `j`, item `j`, and the items after it
 pub cut : {X : Type 0} (xs : List X) (j : ℕ) (x : X) → slice_get xs j ≡ Some x → xs ≡ take j xs ++ x ∷ drop (suc j) xs
 cut [] j x e = cc e
 cut (y ∷ ys) zero x e = let same : y ≡ x = cc e in ap (λ v. v ∷ ys) same
@@ -33,13 +31,11 @@ pub holds_at : {X : Type 0} (breaks : List X → X → Bool) (xs : List X) → K
     → (j : ℕ) (x : X) → slice_get xs j ≡ Some x → breaks (take j xs) x ≡ false
 holds_at breaks xs h j x e = h (take j xs) x (drop (suc j) xs) (cut xs j x e)
 
--- if `list_any` is false of a test and a list, no item of the list passes the test
 pub none_has : {X : Type 0} (p : X → Bool) (xs : List X) (x : X) → list_any p xs ≡ false → Has xs x → p x ≡ false
 none_has p [] x e h = absurd h
 none_has p (y ∷ ys) x e (inl same) = sym (ap p same) ∙ (or_parts (p y) (list_any p ys) e).0
 none_has p (y ∷ ys) x e (inr h) = none_has p ys x (or_parts (p y) (list_any p ys) e).1 h
 
--- if `key` has the value `v` for each item, it has the same value for any two items
 pub all_alike : {X K : Type 0} (key : X → K) (v : K) (xs : List X) → All (λ x. key x ≡ v) xs → AllPairs (λ a b. key a ≡ key b) xs
 all_alike key v xs h = λ i j d less within. h i d (omega arith) ∙ sym (h j d within)
 
@@ -78,7 +74,6 @@ once_append key (x ∷ xs) ys hx hy new =
     by_part b (inl k) e = once_head key x xs b hx k e
     by_part b (inr k) e = new x b (inl refl) k e
 
--- if no item has the key of an earlier item, no two places have items with the same key
 pub once_by_order : {X K : Type 0} (key : X → K) (xs : List X)
     → ((i j : ℕ) (x y : X) → i < j → slice_get xs i ≡ Some x → slice_get xs j ≡ Some y
     → key x ≡ key y → ⊥) → Once key xs
@@ -100,8 +95,7 @@ made_at f [] k y e = cc e
 made_at f (x ∷ xs) zero y e = record { from = x; at = refl; gives = cc e }
 made_at f (x ∷ xs) (suc k) y e = let r : Made f xs k y = made_at f xs k y e in record { from = r.from; at = r.at; gives = r.gives }
 
--- a search that numbers the items from `n` on returned the number `k`: the item with this number
--- passes the test
+-- if the items are numbered from `n` on, the item with number `k` passes the test
 pub record Placed {X : Type 0} (p : X → Bool) (xs : List X) (n k : ℕ) : Type 0 where
   pub place : ℕ
   pub item : X
@@ -142,7 +136,6 @@ pub never_found : {X : Type 0} (n : ℕ) (xs : List X) → position_from (λ x. 
 never_found n [] = refl
 never_found n (x ∷ xs) = never_found (n + 1) xs
 
--- if an item of a list passes a test, the count of passing items is at least 1
 pub counted : {X : Type 0} (p : X → Bool) (xs : List X) (j : ℕ) (y : X) → slice_get xs j ≡ Some y → p y ≡ true → 1 ≤ count_by p xs
 counted p [] j y e t = cc e
 counted p (x ∷ xs) zero y e t =
@@ -170,7 +163,6 @@ counted_once p (z ∷ xs) (suc i) zero x y most ex ey tx ty =
 counted_once p (z ∷ xs) (suc i) (suc j) x y most ex ey tx ty =
     ap suc (counted_once p xs i j x y (omega (arith, sum_by-cons (λ v. cond (p v) 1 0) z xs)) ex ey tx ty)
 
--- if no two places have items with the same key, items with the same key are equal
 pub once_item : {X K : Type 0} (key : X → K) (xs : List X) → Once key xs → (x y : X) → Has xs x → Has xs y → key x ≡ key y → x ≡ y
 once_item {X} key xs once x y hx hy e =
     let r = has_place xs x hx in

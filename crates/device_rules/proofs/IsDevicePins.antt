@@ -23,7 +23,6 @@ use Rattle.device_rules.proofs.IsDeviceLists.{same_name, name_same, earlier, hol
 use Rattle.device_rules.proofs.RangeLemmas.{length_indexes}
 use Rattle.device_rules.proofs.IsDevicePorts.{PortsStand, IsBitOf, is_bit_of, spot, spots_once}
 
--- if no two ports have the same name, the search for a port's name finds that port
 pub port_is : (ports : List Port) → Once (λ port. port.name) ports → (name : List ℕ) (port : Port)
     → Has ports port → port.name ≡ name → port_of ports name ≡ Some port
 port_is ports once name port has same = by_found (port_of ports name) refl
@@ -49,7 +48,6 @@ kept_entry ports before entry e =
     let b = or_parts (not (has_width (port_of ports entry.port) (length entry.pins))) (some_repeats (mapped_pins before) entry.pins) a.1 in
     record { new = a.0; wide = not-false (has_width (port_of ports entry.port) (length entry.pins)) b.0; apart = b.1 }
 
--- if none of `pins` is in `seen` or occurs twice in `pins`, no pin is in both lists
 none_seen : (seen pins : List (List ℕ)) (pin : List ℕ) → some_repeats seen pins ≡ false → Has seen pin → Has pins pin → ⊥
 none_seen seen [] pin e h k = absurd k
 none_seen seen (p ∷ pins) pin e h (inl same) =
@@ -63,8 +61,6 @@ none_seen seen (p ∷ pins) pin e h (inr k) =
 abbrev itself : List ℕ → List ℕ
 itself pin = pin
 
--- if none of `pins` is in `seen` or occurs twice in `pins`, no two places of `pins` have the same
--- pin
 pins_once : (seen pins : List (List ℕ)) → some_repeats seen pins ≡ false → Once itself pins
 pins_once seen [] e = once_nil itself
 pins_once seen (pin ∷ pins) e =
@@ -129,7 +125,6 @@ pin_from entries bit pin e = by_found (find (maps_port bit.name) entries) refl e
         let r = find_has (maps_port bit.name) entries entry found in
         record { entry = entry; has = r.0; named = same_name entry.port bit.name r.1; at = is }
 
--- if V4 holds, no two port bits have the same pin
 pub pins_apart : (ports : List Port) (entries : List MapEntry) (taps : TapPorts)
     (compliance : Option Compliance) → PortsStand ports → v4 ports entries ≡ None
     → (i j : ℕ) (a b : PortBit) (pin : List ℕ)
@@ -150,7 +145,6 @@ pins_apart ports entries taps compliance stand e i j a b pin at_i at_j pin_a pin
     ∙ ap (λ k. let s : List ℕ × ℕ = (y.from.name, k) in s) same.place in
     spots_once ports stand i j x.from y.from x.at y.at one
 
--- if V4 holds, a bit has a pin if and only if the map names the bit's port
 pub is_mapped : (ports : List Port) (entries : List MapEntry) → PortsStand ports
     → v4 ports entries ≡ None → (bit : Bit) → Has (all_port_bits ports) bit
     → is_some (mapped_pin entries bit) ≡ is_some (find (maps_port bit.name) entries)

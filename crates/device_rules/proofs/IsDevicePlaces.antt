@@ -37,8 +37,6 @@ star_is (Index name index) e = cc e
 no_place : (ports : List Port) (word : PortWord) → is_star word ≡ true → bit_number ports word ≡ None
 no_place ports word e = ap (bit_number ports) (star_is word e) ∙ never_found 0 (all_port_bits ports)
 
--- if an entry does not break V9, it is on a port bit if and only if its function is not CONTROL,
--- CONTROLR or INTERNAL
 place_of : (ports : List Port) (entry : Entry) → breaks_place ports entry ≡ false
     → HasPlace (length (all_port_bits ports)) entry.role (bit_number ports entry.port)
 place_of ports entry e = by_inner (is_inner entry.role) (bit_number ports entry.port) refl refl e
@@ -80,7 +78,6 @@ places draft e =
     subst (λ n. HasPlace n entry.role (bit_number draft.ports entry.port)) (sym many)
     (place_of draft.ports entry (place_kept draft.ports draft.entries e entry has))))
 
--- if the cell of an entry drives port bit `bit`, the entry drives this bit
 driven : (ports : List Port) (bit : ℕ) (entry : Entry) → drives_bit bit (cell_of ports entry) ≡ true
     → driven_bit_number ports entry ≡ Some bit
 driven ports bit entry e =
@@ -106,7 +103,6 @@ driven_before ports entries e bit i j x y less at_i at_j drives_x drives_y =
     (take j entries) x kept (earlier entries i j x less at_i) in
     clash (is_on bit (driven_bit_number ports x)) (ap (is_on bit) drives_x ∙ eq-eqb bit bit refl) other
 
--- if V13 holds, each port bit has at most one driving entry
 pub one_driver : (draft : Draft) → v13 draft.ports draft.entries ≡ None → OneDriver (raw_device draft)
 unfolding raw_cells
 one_driver draft none i j bit e d at_i at_j drives_e drives_d =
@@ -127,7 +123,6 @@ one_driver draft none i j bit e d at_i at_j drives_e drives_d =
         absurd
         (driven_before draft.ports draft.entries none bit j i y x less at_y at_x drives_y drives_x)
 
--- if a word names a bit, the port that the word names is the port of the bit
 named_is : (ports : List Port) → PortsStand ports
     → (bit : Bit) (of : IsBitOf ports 0 bit) (word : PortWord) → is_named word bit ≡ true
     → named_port ports word ≡ Some of.port

@@ -85,7 +85,6 @@ length_all number (port ∷ ports) h =
     let sum : bit_total (port ∷ ports) ≡ width port.range + bit_total ports = sum_by-cons (λ (p : Port). width p.range) port ports in
     omega (arith, here, rest, all, sum)
 
--- if V2 holds, there are at most 65,535 port bits
 pub bits_few : (ports : List Port) → PortsStand ports → length (all_port_bits ports) ≤ most_bits
 bits_few ports stand =
     let all : length (all_port_bits ports) ≡ bit_total ports = length_all 0 ports stand.ordered in

@@ -63,8 +63,6 @@ no_range : (range : Option Range) → is_none range ≡ true → range ≡ None
 no_range None e = refl
 no_range (Some range) e = cc e
 
--- if a TAP attribute does not break V3 and `test` is true of `mode` only, the attribute names a
--- plain port of mode `mode`
 is_tap : (ports : List Port) (before : List (List ℕ)) (name : List ℕ) (test : Mode → Bool)
     (mode : Mode) → ((m : Mode) → test m ≡ true → m ≡ mode)
     → breaks_tap test ports before name ≡ false → IsTap ports name mode
@@ -160,7 +158,6 @@ are_taps ports taps compliance e =
         next_tap ports (four_taps taps) (Inward ∷ Outward ∷ Inward ∷ Inward ∷ []) name is_inward
         Inward inward four r
 
--- if no item passes the test, the count of items that pass it is 0
 none_counted : {X : Type 0} (p : X → Bool) (xs : List X) → ((x : X) → Has xs x → p x ≡ false) → count_by p xs ≡ 0
 none_counted p [] h = refl
 none_counted p (x ∷ xs) h =
@@ -189,7 +186,7 @@ both_counted p q r (x ∷ xs) h =
       rest,
     )
 
--- the bit has this name, and `mode` is true of its mode
+-- the bit has this name, and its mode passes the test `mode`
 abbrev tapped_by : List ℕ → (Mode → Bool) → Bit → Bool
 tapped_by name mode bit = bytes_eq bit.name name && mode bit.mode
 
@@ -212,8 +209,7 @@ here_counted number port name mode named plain =
     ap (λ range. count_by (tapped_by name mode) (bits_along number port 0 (indexes range))) plain
     ∙ (one_counted (tapped_by name mode) (only_bit number port) ∙ ap (λ b. cond (b && mode port.mode) 1 0) (name_same port.name name named))
 
--- exactly one bit has the name of a plain port; it is counted if and only if `mode` is true of the
--- port's mode
+-- exactly one bit has the name of a plain port
 name_counted : (first : ℕ) (ports : List Port) → Once (λ port. port.name) ports → (port : Port)
     → Has ports port → port.range ≡ None → (mode : Mode → Bool)
     → count_by (tapped_by port.name mode) (bits_from first ports) ≡ cond (mode port.mode) 1 0
@@ -260,8 +256,6 @@ split_test false true false h = refl
 split_test false false true h = refl
 split_test false false false h = refl
 
--- for every predicate `mode`, the number of port bits named in `names` whose mode satisfies it
--- equals the number of items of `modes` that satisfy it
 taps_counted : (ports : List Port) → PortsStand ports → (names : List (List ℕ)) (modes : List Mode)
     → AreTaps ports names modes → (mode : Mode → Bool)
     → count_by (tapped names mode) (all_port_bits ports) ≡ count_by mode modes
@@ -286,7 +280,7 @@ taps_counted ports stand (name ∷ names) (m ∷ modes) h mode =
     h.1 r.0 r.1 (sym (same_name bit.name name is) ∙ same_name bit.name r.0 r.2))) in
     omega (arith, sum_by-cons (λ v. cond (mode v) 1 0) m modes, here, rest, both)
 
--- this is the name of a TAP port whose mode is one of `modes`
+-- a plain port has this name, and its mode is one of `modes`
 record HasMode (ports : List Port) (name : List ℕ) (modes : List Mode) : Type 0 where
   mode : Mode
   has : Has modes mode

@@ -1,5 +1,4 @@
--- Lemmas about a loop that looks for the first item that breaks a rule, and about what its result
--- says.
+-- Lemmas about a loop that looks for the first item that breaks a rule, and about its result.
 use Rattle.std.proofs.Common.{◌≡◌, ℕ, ◌+◌, ◌<◌, ◌≤◌, get_or, Bool, true, false, List, [], ◌∷◌, ◌++◌, length, take, drop, Option, Some, None, refl, sym, ◌∙◌, ap, subst, arith, length-append, append_assoc, append-nil}
 use Rattle.std.proofs.Math.ListN.{drop_of_length-le}
 use Rattle.std.proofs.lemmas.List.{take_more, drop_more, length-take-le}
@@ -111,8 +110,6 @@ is_found breaks items (Some number) h = record {
 pub first_is_found : {A : Type 0} (breaks : List A → A → Bool) (items : List A) → IsFound breaks items (first_break breaks items)
 first_is_found breaks items = is_found breaks items (first_break breaks items) (found_from breaks items [])
 
--- one step of the loop: if item `i` does not break the rule, the search from item `i + 1` on has
--- the same result as the search from item `i` on
 pub first_step : {A : Type 0} (breaks : List A → A → Bool) (items : List A) (i : ℕ) (item : A)
     (o : Option ℕ) → i < length items → get_or items i item ≡ item
     → breaks (take i items) item ≡ false

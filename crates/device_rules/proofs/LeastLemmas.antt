@@ -30,8 +30,6 @@ same_from p q n (suc count) h =
     ∙ ap (λ o. if q n then Some n else o)
     (same_from p q (suc n) count (λ m less. h m (omega arith)))
 
--- if two properties agree on the numbers below the bound, the lowest number below it with one
--- property is the lowest with the other
 pub least_same : (p q : ℕ → Bool) (bound : ℕ) → ((n : ℕ) → n < bound → p n ≡ q n) → least_below p bound ≡ least_below q bound
 least_same p q bound h = same_from p q 0 bound (λ m less. h m (omega arith))
 
@@ -71,7 +69,6 @@ found_now : (is : ℕ → Bool) (from count : ℕ) (b : Bool) → is from ≡ b
 found_now is from count true e h = (omega arith, omega arith, e, λ n le lt. absurd (omega arith))
 found_now is from count false e h = found_later is from count (least_from is (suc from) count) e h
 
--- this is what the loop returns
 from_least : (is : ℕ → Bool) (from count : ℕ) → LeastFrom is from count (least_from is from count)
 from_least is from zero = λ n le lt. absurd (omega arith)
 from_least is from (suc count) = found_now is from count (is from) refl (from_least is (suc from) count)

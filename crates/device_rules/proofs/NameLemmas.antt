@@ -6,7 +6,6 @@ use Rattle.lists.proofs.ListLemmas.{position_from-map}
 use Rattle.first_places.specs.Places.{first_place}
 use Rattle.device_rules.specs.inner.Index.{place_called}
 
--- the first place of a name in the names of the items is the place of the first item with this name
 pub called_first : {A : Type 0} (name_in : A → List ℕ) (items : List A) (names : List (List ℕ))
     (q : List ℕ) → names ≡ map name_in items
     → first_place bytes_eq names q ≡ place_called name_in items q

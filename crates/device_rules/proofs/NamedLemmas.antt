@@ -15,8 +15,8 @@ use Rattle.device_rules.specs.Raw.{in_compliance}
 use Rattle.device_rules.proofs.NameLemmas.{bytes_turned}
 use Rattle.device_rules.proofs.PinLemmas.{one_more}
 
--- if a flag says whether one of the first `i` words names the bit, and word `i` names a bit with
--- the key `key`, the new flag says whether one of the first `i + 1` words names the bit
+-- one step of a loop over the words: `old` is the flag before word `i`, and `new` is the flag after
+-- it
 pub marked_more : (words : List PortWord) (i : ℕ) (word : PortWord) (key : List ℕ × Option ℕ)
     (name : List ℕ) (index : Option ℕ) (new old : Bool) → i < length words
     → get_or words i word ≡ word → key_of word ≡ Some key
@@ -30,8 +30,6 @@ marked_more words i word key name index new old less is same e f =
     ∙ ap (λ x. list_any (names_bit name index) (take i words) || names_bit name index x) (sym is)
     ∙ sym (list_any_more (names_bit name index) words i word less)
 
--- if word `i` has no key, the flag for the first `i` words is also right for the first `i + 1`
--- words
 pub marked_none : (words : List PortWord) (i : ℕ) (word : PortWord) (name : List ℕ)
     (index : Option ℕ) (old : Bool) → i < length words → get_or words i word ≡ word
     → key_of word ≡ None
@@ -54,7 +52,6 @@ same_index (Some n) (Some i) = turned n i
 both : (a b c d : Bool) → a ≡ b → c ≡ d → (a && c) ≡ (b && d)
 both a b c d e f = ap (λ x. x && c) e ∙ ap (λ x. b && x) f
 
--- a word names a bit if and only if the word's key is the bit's name and index
 names_is : (bit : Bit) (word : PortWord) → names_bit bit.name bit.index word ≡ is_named word bit
 names_is bit Star = refl
 names_is bit (Plain name) = both _ _ _ _ (bytes_turned name bit.name) (sym (same_index None bit.index))

@@ -11,7 +11,6 @@ use Rattle.bsdl_parser.specs.declared.entity.Port.{Port}
 use Rattle.device_rules.specs.Ports.{port_of}
 use Rattle.device_rules.specs.PinMap.{maps_port, has_width, some_repeats, mapped_pins, breaks_map}
 
--- if pin `i` is among the pins seen before it, some pin repeats
 pub repeats_hit : (before pins : List (List ℕ)) (i : ℕ) (pin : List ℕ) → i < length pins
     → get_or pins i pin ≡ pin → is_named_among (before ++ take i pins) pin ≡ true
     → some_repeats (before ++ take i pins) (drop i pins) ≡ true
@@ -26,8 +25,6 @@ front_more before pins i pin less is =
     ∙ ap (λ xs. before ++ xs)
     (ap (λ x. take i pins ++ x ∷ []) (sym is) ∙ sym (take_more pins i pin less))
 
--- if pin `i` is not among the pins seen before it, some pin from `i` on repeats if and only if some
--- pin from `i + 1` on does
 pub repeats_step : (before pins : List (List ℕ)) (i : ℕ) (pin : List ℕ) → i < length pins
     → get_or pins i pin ≡ pin → is_named_among (before ++ take i pins) pin ≡ false
     → some_repeats (before ++ take i pins) (drop i pins) ≡ some_repeats (before ++ take (i + 1) pins) (drop (i + 1) pins)
@@ -36,7 +33,6 @@ repeats_step before pins i pin less is e =
     ap (some_repeats (before ++ take i pins)) cut ∙ ap (λ b. b || some_repeats ((before ++ take i pins) ++ pin ∷ []) (drop (i + 1) pins)) e
     ∙ ap (λ xs. some_repeats xs (drop (i + 1) pins)) (front_more before pins i pin less is)
 
--- after pin `i`, a pin is among the seen pins if and only if it was among them before or is pin `i`
 pub among_more : (before pins : List (List ℕ)) (i : ℕ) (pin q : List ℕ) → i < length pins
     → get_or pins i pin ≡ pin
     → is_named_among (before ++ take (i + 1) pins) q
@@ -46,8 +42,6 @@ among_more before pins i pin q less is =
     ∙ list_any-append (bytes_eq q) (before ++ take i pins) (pin ∷ [])
     ∙ ap (λ b. is_named_among (before ++ take i pins) q || (b || false)) (bytes_turned q pin)
 
--- the pins of the first `i` entries followed by the pins of entry `i` are the pins of the first `i
--- + 1` entries
 pub pins_more : (entries : List MapEntry) (i : ℕ) (entry : MapEntry) → i < length entries
     → get_or entries i entry ≡ entry
     → mapped_pins (take i entries) ++ entry.pins ≡ mapped_pins (take (i + 1) entries)
@@ -56,8 +50,6 @@ pins_more entries i entry less is =
     ∙ ap mapped_pins
     (ap (λ x. take i entries ++ x ∷ []) (sym is) ∙ sym (take_more entries i entry less))
 
--- an entry breaks V4 if and only if an earlier entry names its port, the entry does not fit its
--- port, or it repeats a pin
 pub breaks_is : (ports : List Port) (before : List MapEntry) (entry : MapEntry) (name : List ℕ)
     (pins : List (List ℕ)) (known fits repeats breaks : Bool) → name ≡ entry.port
     → pins ≡ entry.pins
@@ -79,8 +71,8 @@ one_more true false = refl
 one_more false true = refl
 one_more false false = refl
 
--- if the old flag says whether one of the first `i` entries names the port `q`, and entry `i`
--- updates the flag, the new flag says so for the first `i + 1` entries
+-- one step of a loop over the entries: `old` is the flag before entry `i`, and `new` is the flag
+-- after it
 pub known_more : (entries : List MapEntry) (i : ℕ) (entry : MapEntry) (name q : List ℕ)
     (new old : Bool) → i < length entries → get_or entries i entry ≡ entry → name ≡ entry.port
     → new ≡ cond (bytes_eq name q) true old
@@ -90,7 +82,8 @@ known_more entries i entry name q new old less is same e f =
     ∙ ap (λ n. list_any (maps_port q) (take i entries) || bytes_eq n q) same
     ∙ ap (λ x. list_any (maps_port q) (take i entries) || maps_port q x) (sym is) ∙ sym (list_any_more (maps_port q) entries i entry less)
 
--- if adding an item to a set returns that the item was not new, the item was in the set before
+-- `fresh` is the result of adding an item to a set, and `there` is whether the set had the item
+-- before
 pub was_there : (fresh there : Bool) → fresh ≡ not there → fresh ≡ false → there ≡ true
 was_there fresh true is old = refl
 was_there fresh false is old = let clash : true ≡ false = sym is ∙ old in absurd (cc clash)

@@ -39,7 +39,6 @@ up_step i n a count later (inr above) =
     let less : a < i = omega (arith, above) in
     miss i n a (range_with_len (a + 1) count) (lt-eqb a i less) ∙ later above ∙ ap Some sums
 
--- in a range that counts up from `a`, the place of an index in the range is its distance from `a`
 up_hit : (i n a count : ℕ) → a ≤ i → i < a + count → place_of i n (range_with_len a count) ≡ Some (n + (i - a))
 up_hit i n a zero low high = absurd (omega arith)
 up_hit i n a (suc count) low high =
@@ -229,8 +228,6 @@ found_by : (left right i start : ℕ) (up : Bool) → (if up then nat_le left ri
 found_by left right i start true e = found_up left right i start (le_of left right e)
 found_by left right i start false e = found_down left right i start (le_of right left e)
 
--- if a range is in order, the search for an index among its indexes, numbered from `start` on,
--- finds `start` plus the place that `index_place` returns, or nothing if `index_place` returns None
 pub place_found : (range : Option Range) (at : Option ℕ) (start : ℕ) → range_in_order range ≡ true
     → position_from (has_index at) start (indexes range)
     ≡ option_map (λ k. start + k) (index_place range at)
@@ -257,7 +254,6 @@ length_by : (left right : ℕ) (up : Bool)
 length_by left right true e = length_up left right (le_of left right e)
 length_by left right false e = length_down left right (le_of right left e)
 
--- if a range is in order, it has as many indexes as it is wide
 pub length_indexes : (range : Option Range) → range_in_order range ≡ true → length (indexes range) ≡ width range
 length_indexes None e = refl
 length_indexes (Some range) e = length-map (range_indexes range.left range.right) Some ∙ length_by range.left range.right range.up e
@@ -289,14 +285,12 @@ within_by left right i false k e = by_test (nat_le right i) (nat_le i left) refl
     by_test true false f g h = cc h
     by_test false b f g h = cc h
 
--- the place of an index in a range is below the width of the range
 pub place_within : (range : Option Range) (at : Option ℕ) (k : ℕ) → index_place range at ≡ Some k → k < width range
 place_within None None k e = let is : 0 ≡ k = cc e in omega (arith, is)
 place_within None (Some i) k e = cc e
 place_within (Some range) None k e = cc e
 place_within (Some range) (Some i) k e = within_by range.left range.right i range.up k e
 
--- item `k` of `count` descending indexes that end at `a` is `a + count - 1 - k`
 get_down : (a count k : ℕ) → k < count → get_or (down a count) k 0 ≡ a + count - 1 - k
 get_down a zero k less = absurd (omega arith)
 get_down a (suc count) zero less = omega arith
@@ -325,8 +319,6 @@ index_by left right k false e less =
     let within : k < length (range_indexes left right) = omega (arith, less, length_down left right (le_of right left e)) in
     get_or-map Some (range_indexes left right) k 0 None within ∙ ap Some (down_index left right k (le_of right left e) less)
 
--- if a range is in order, item `k` of its indexes is the left bound plus `k` if the range counts
--- up, and minus `k` if it counts down
 pub index_found : (range : Option Range) (k : ℕ) → range_in_order range ≡ true → k < width range
     → get_or (indexes range) k None ≡ index_at range k
 index_found None zero e less = refl

@@ -36,7 +36,6 @@ get_along number port place (i ∷ ixs) (suc k) d less =
     let sums : (place + 1) + k ≡ place + suc k = omega arith in
     get_along number port (place + 1) ixs k d (omega arith) ∙ ap (bit_with number port (get_or ixs k None)) sums
 
--- bit `k` of a port has the index at place `k` of the port's range
 get_bit : (number : ℕ) (port : Port) (k : ℕ) (d : Bit) → range_in_order port.range ≡ true
     → k < width port.range → get_or (bits_in_port number port) k d ≡ bit_of_port number port k
 get_bit number port k d e less =
@@ -45,7 +44,6 @@ get_bit number port k d e less =
     ∙ ap (λ p. bit_with number port (get_or (indexes port.range) k None) p) (omega arith)
     ∙ ap (λ i. bit_with number port i k) (index_found port.range k e less)
 
--- the first `k` bits of a port followed by bit `k` are the port's first `k + 1` bits
 pub bits_step : {B : Type 0} (f : Bit → B) (number : ℕ) (port : Port) (k : ℕ) (before : List B)
     → range_in_order port.range ≡ true → k < width port.range
     → (before ++ map f (take k (bits_in_port number port))) ++ f (bit_of_port number port k) ∷ []
@@ -62,8 +60,8 @@ bits_step f number port k before e less =
     ∙ ap (λ bs. before ++ bs)
     (sym (map-append f (take k bits) (bit_of_port number port k ∷ [])) ∙ sym (ap (map f) more))
 
--- if the bits made before port `i`, followed by the bits of ports `i..`, are all bits, the same is
--- true of port `i + 1` after the bits of port `i` are appended
+-- one step of a loop over the ports: `before` has the bits made before port `i`, and `new` has the
+-- bits made after it
 pub ports_step : {B : Type 0} (f : Bit → B) (ports : List Port) (i : ℕ) (port : Port)
     (before all new : List B) → i < length ports → get_or ports i port ≡ port
     → all ≡ before ++ map f (bits_from i (drop i ports))
@@ -78,8 +76,6 @@ ports_step f ports i port before all new less is so_far added =
     (map f (bits_from (i + 1) (drop (i + 1) ports))))
     ∙ ap (λ bs. bs ++ map f (bits_from (i + 1) (drop (i + 1) ports))) (sym added)
 
--- if no port has the name of an earlier port and each range is in order, the range of port `i` is
--- in order
 ordered_in : (ports : List Port) (i : ℕ) (port : Port) → Apart ports → i < length ports
     → get_or ports i port ≡ port → range_in_order port.range ≡ true
 ordered_in [] i port h less is = absurd (omega arith)
@@ -90,8 +86,6 @@ pub ordered_at : (ports : List Port) (i : ℕ) (port : Port) → v2 ports ≡ No
     → get_or ports i port ≡ port → range_in_order port.range ≡ true
 ordered_at ports i port e less is = ordered_in ports i port (apart ports e) less is
 
--- the record made from the fields of the bit at `place` of a port is equal to `port_bit` of this
--- bit
 pub bit_is : (entries : List MapEntry) (taps : TapPorts) (compliance : Option Compliance)
     (number : ℕ) (port : Port) (place : ℕ) (name : List ℕ) (index : Option ℕ)
     (pin : Option (List ℕ)) (tap named : Bool)

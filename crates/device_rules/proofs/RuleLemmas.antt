@@ -18,8 +18,6 @@ use Rattle.device_rules.proofs.LeastLemmas.{is_least}
 abbrev BothNone : Option ℕ → Option Broken → Type 0
 BothNone item after = (item ≡ None) × (after ≡ None)
 
--- if neither this rule nor a later one is broken, the rule finds no item, and `after`, the result
--- for the later rules, is None
 none_found : (which : Rule) (item : Option ℕ) (after : Option Broken) → rule which item after ≡ None → BothNone item after
 none_found which None after e = (refl, e)
 none_found which (Some item) after e = cc e
@@ -70,7 +68,6 @@ from_2_none : (draft : Draft) → first_rule draft ≡ None → (v2 draft.ports 
 unfolding first_rule
 from_2_none draft e = none_found Ports _ _ e
 
--- if a draft breaks no rule, the function of each rule returns None
 pub keeps_rules : (draft : Draft) → first_rule draft ≡ None → KeepsRules draft
 keeps_rules draft e =
     let p = from_2_none draft e in
@@ -95,10 +92,8 @@ keeps_rules draft e =
       v14 = d.3;
     }
 
--- if `first_break` returns None, no item breaks the rule
 pub holds : {A : Type 0} (breaks : List A → A → Bool) (items : List A) → first_break breaks items ≡ None → KeepsRule breaks items
 holds breaks items e = subst (IsFound breaks items) e (first_is_found breaks items)
 
--- if `least_below` returns None, no number below the bound has the property
 pub none_below : (is : ℕ → Bool) (bound : ℕ) → least_below is bound ≡ None → IsLeast is bound None
 none_below is bound e = subst (IsLeast is bound) e (is_least is bound)

@@ -8,8 +8,6 @@ use Rattle.device_rules.specs.inner.Tables.{Counts}
 same_or_not : (m n : ℕ) → (m ≡ n) ⊎ (m ≢ n)
 same_or_not m n = grind arith
 
--- if the counts are right for the first `i` items, and item `i` belongs to no number below the
--- bound, the same counts are right for the first `i + 1` items
 pub counts_kept : {A : Type 0} (is_of : ℕ → A → Bool) (items : List A) (bound i : ℕ) (item : A)
     (table : List ℕ) → i < length items → get_or items i item ≡ item
     → ((n : ℕ) → n < bound → is_of n item ≡ false) → Counts is_of (take i items) bound table → Counts is_of (take (i + 1) items) bound table
@@ -18,9 +16,6 @@ counts_kept is_of items bound i item table lt is none h = record {
   each = λ n below. h.each n below ∙ sym (count_by_more_no (is_of n) items i item lt (ap (is_of n) is ∙ none n below));
 }
 
--- if the counts are right for the first `i` items, and item `i` belongs to the number `cell` and to
--- no other, the counts are right for the first `i + 1` items after the count of `cell` is raised by
--- one
 pub counts_more : {A : Type 0} (is_of : ℕ → A → Bool) (items : List A) (bound i : ℕ) (item : A)
     (cell : ℕ) (table : List ℕ) → i < length items → get_or items i item ≡ item → cell < bound
     → is_of cell item ≡ true → ((n : ℕ) → n ≢ cell → is_of n item ≡ false)

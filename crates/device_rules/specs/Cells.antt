@@ -1,4 +1,5 @@
--- The rules on the cells of the boundary register.
+-- The rules on the cells of the boundary register. `v10` returns the number of the first entry that
+-- breaks the rule, counted from 1. The other rules return a cell number.
 use Rattle.std.specs.Prelude.{ℕ, ◌==◌, List, Bool, true, false, ◌&&◌, ◌||◌, not, if◌then◌else◌, Option, Some, None, nat_lt, nat_le, find, option_map, count_by}
 use Rattle.std.specs.List.{list_any}
 use Rattle.board_defs.specs.declared.device.Role.{Role}

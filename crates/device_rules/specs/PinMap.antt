@@ -1,4 +1,5 @@
--- The rule on the pin map.
+-- The rule on the pin map. `v4` returns the number of the first entry that breaks the rule, counted
+-- from 1.
 use Rattle.std.specs.Prelude.{ℕ, List, [], ◌∷◌, ◌++◌, length, Bool, false, ◌||◌, ◌==◌, not, Option, Some, None, flat_map}
 use Rattle.std.specs.List.{list_any}
 use Rattle.std.specs.Str.{bytes_eq}

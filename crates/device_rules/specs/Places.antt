@@ -1,4 +1,5 @@
--- The rules on the ports of boundary entries.
+-- The rules on the ports of boundary entries. Each rule returns the number of the first entry that
+-- breaks it, counted from 1.
 use Rattle.std.specs.Prelude.{ℕ, List, Bool, true, false, ◌&&◌, ◌||◌, not, if◌then◌else◌, Option, Some, None, is_none}
 use Rattle.std.specs.List.{list_any}
 use Rattle.board_defs.specs.declared.device.Role.{Role}

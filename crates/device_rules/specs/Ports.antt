@@ -32,11 +32,12 @@ breaks_port before port =
     list_any (port_named port.name) before
     || (not (range_in_order port.range) || nat_lt most_bits (bit_total before + width port.range))
 
--- V2: port names differ, ranges are in order, and there are at most 65,535 port bits
+-- V2: port names differ, ranges are in order, and there are at most 65,535 port bits. The result is
+-- the number of the first port that breaks the rule, counted from 1.
 unfoldable pub v2 : List Port → Option ℕ
 v2 ports = first_break breaks_port ports
 
--- The port with this name, if there is one.
+-- the port with this name, if there is one
 abbrev pub port_of : List Port → List ℕ → Option Port
 port_of ports name = find (port_named name) ports
 
@@ -75,8 +76,8 @@ bits_from number (port ∷ ports) = bits_in_port number port ++ bits_from (numbe
 abbrev pub all_port_bits : List Port → List Bit
 all_port_bits ports = bits_from 0 ports
 
--- A word with the first index can name a bit with the second: both are None, or both are the same
--- number.
+-- The first index is the index of a word, and the second is the index of a bit. The word can name
+-- the bit if both are None or both are the same number.
 abbrev pub has_index : Option ℕ → Option ℕ → Bool
 has_index None index = is_none index
 has_index (Some number) index = is_on number index
@@ -91,7 +92,7 @@ is_named Star bit = false
 is_named (Plain name) bit = is_bit_named name None bit
 is_named (Index name index) bit = is_bit_named name (Some index) bit
 
--- the number of the port bit that the word names, counted from 0
+-- the number of the port bit that the word names, counted from 0, if the word names one
 abbrev pub bit_number : List Port → PortWord → Option ℕ
 bit_number ports word = position_from (is_named word) 0 (all_port_bits ports)
 

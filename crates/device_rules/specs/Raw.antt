@@ -49,7 +49,8 @@ cell_of ports entry = record {
   ctl = entry.ctl;
 }
 
--- the entries in the order of the text, each with the number of its port bit
+-- the entries as cells, in the order of the text, each with the number of its port bit, if it has
+-- one
 unfoldable pub raw_cells : List Port → List Entry → List Cell
 raw_cells ports entries = map (cell_of ports) entries
 
@@ -68,7 +69,7 @@ raw_device draft = record {
   cells = raw_cells draft.ports draft.entries;
 }
 
--- the lengths of the instruction register and of the boundary register are in their ranges
+-- the instruction register has 2 to 255 bits, and the boundary register has 1 to 65,535 cells
 pub record HasLengths (draft : Draft) : Type 0 where
   pub ir_least : 2 ≤ draft.ir
   pub ir_most : draft.ir ≤ most_instruction_bits

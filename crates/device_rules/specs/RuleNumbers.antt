@@ -4,7 +4,7 @@ use Rattle.device_rules.specs.declared.broken.Rule.{Rule}
 use Rattle.device_rules.specs.declared.broken.Rule.TheVariants.{Mandatory, Ports, TestPort, PinMap, Opcodes, Instructions, Patterns, Cells, Places, Controls, DisableValues, Stages, Drivers, Modes}
 use Rattle.device_rules.specs.declared.broken.Broken.{Broken}
 
--- the number by which a fault names the rule
+-- the rule's number, which a fault contains
 abbrev pub rule_number : Rule → ℕ
 rule_number Mandatory = 1
 rule_number Ports = 2
@@ -21,6 +21,6 @@ rule_number Stages = 12
 rule_number Drivers = 13
 rule_number Modes = 14
 
--- the report that `item` is the first item that breaks the rule
+-- the report that `item` is the first item that breaks this rule
 abbrev pub broken_at : Rule → ℕ → Broken
 broken_at rule item = record { rule = rule_number rule; item = item }

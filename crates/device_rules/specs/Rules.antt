@@ -20,7 +20,7 @@ abbrev pub rule : Rule → Option ℕ → Option Broken → Option Broken
 rule which None after = after
 rule which (Some item) after = Some (broken_at which item)
 
--- the first of the rules V11 to V14 that the draft breaks, with the item that breaks it
+-- the first of the rules V11 to V14 that the draft breaks, with the first item that breaks it
 unfoldable pub from_11 : Draft → Option Broken
 from_11 draft =
     rule DisableValues (v11 draft.boundary draft.entries) (
@@ -28,18 +28,18 @@ from_11 draft =
     rule Drivers (v13 draft.ports draft.entries) (
     rule Modes (v14 draft.ports draft.taps draft.entries) None)))
 
--- the first of the rules V9 to V14 that the draft breaks, with the item that breaks it
+-- the first of the rules V9 to V14 that the draft breaks, with the first item that breaks it
 unfoldable pub from_9 : Draft → Option Broken
 from_9 draft =
     rule Places (v9 draft.ports draft.entries) (
     rule Controls (v10 draft.entries) (
     from_11 draft))
 
--- the first of the rules V8 to V14 that the draft breaks, with the item that breaks it
+-- the first of the rules V8 to V14 that the draft breaks, with the first item that breaks it
 unfoldable pub from_8 : Draft → Option Broken
 from_8 draft = rule Cells (v8 draft.boundary draft.entries) (from_9 draft)
 
--- the first of the rules V5 to V14 that the draft breaks, with the item that breaks it
+-- the first of the rules V5 to V14 that the draft breaks, with the first item that breaks it
 unfoldable pub from_5 : Draft → Option Broken
 from_5 draft =
     rule Opcodes (v5 draft.ir draft.opcodes) (
@@ -47,19 +47,20 @@ from_5 draft =
     rule Patterns (v7 draft.ir draft.capture draft.idcode) (
     from_8 draft)))
 
--- the first of the rules V3 to V14 that the draft breaks, with the item that breaks it
+-- the first of the rules V3 to V14 that the draft breaks, with the first item that breaks it
 unfoldable pub from_3 : Draft → Option Broken
 from_3 draft =
     rule TestPort (v3 draft.ports draft.taps draft.compliance) (
     rule PinMap (v4 draft.ports draft.map) (
     from_5 draft))
 
--- the first of the rules V2 to V14 that the draft breaks, with the item that breaks it
+-- the first of the rules V2 to V14 that the draft breaks, with the first item that breaks it
 unfoldable pub first_rule : Draft → Option Broken
 first_rule draft = rule Ports (v2 draft.ports) (from_3 draft)
 
--- No rule is broken, and `IsWanted` is true of the value. Otherwise the fault is the first rule that the draft breaks. If memory was
--- refused, nothing is claimed.
+-- If the result is a value, the draft breaks no rule, and `IsWanted` holds for the value. If the
+-- result names a rule, it is the first rule that the draft breaks. If memory ran out, nothing is
+-- claimed.
 abbrev pub IfSound : {A : Type 0} → Draft → (A → Type 0) → Result A DraftFault → Type 0
 IfSound draft IsWanted (Ok value) = (first_rule draft ≡ None) × IsWanted value
 IfSound draft IsWanted (Err (faults.Rule broken)) = first_rule draft ≡ Some broken

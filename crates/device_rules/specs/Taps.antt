@@ -26,7 +26,7 @@ is_outward Both = false
 is_outward Buffer = false
 is_outward Linkage = false
 
--- there is a port, it has type bit, and `mode` is true of its mode
+-- there is a port, it has type bit, and its mode passes the test `mode`
 abbrev pub is_plain_port : (Mode → Bool) → Option Port → Bool
 is_plain_port mode None = false
 is_plain_port mode (Some port) = is_none port.range && mode port.mode
@@ -34,8 +34,8 @@ is_plain_port mode (Some port) = is_none port.range && mode port.mode
 abbrev pub is_named_among : List (List ℕ) → List ℕ → Bool
 is_named_among names name = list_any (bytes_eq name) names
 
--- a TAP attribute that names the port `name` breaks V3: the name is one of `before`, there is no
--- port of type bit with this name, or `mode` is false of the port's mode
+-- a TAP attribute that names the port `name` breaks V3: the name is one of `before`, no port of
+-- type bit has this name, or the port's mode does not pass the test `mode`
 abbrev pub breaks_tap : (Mode → Bool) → List Port → List (List ℕ) → List ℕ → Bool
 breaks_tap mode ports before name = is_named_among before name || not (is_plain_port mode (port_of ports name))
 

@@ -39,7 +39,7 @@ pub enum Rule {
 }
 
 impl Rule {
-    /// Returns the number, from 1 to 14, by which a fault names the rule.
+    /// Returns the rule's number, from 1 to 14, which a fault contains.
     pub fn number(self) -> u32
         ensures { result ≡ rule_number self }
     {
@@ -61,7 +61,7 @@ impl Rule {
         }
     }
 
-    /// Returns the report that `item` is the first item that breaks the rule.
+    /// Returns the report that `item` is the first item that breaks this rule.
     pub(crate) fn broken_at(self, item: u32) -> Broken
         ensures { result ≡ broken_at self item }
     {

@@ -50,7 +50,7 @@ fn cells_disabling_by(
     Ok(table)
 }
 
-/// Returns the lowest cell whose flag is not set.
+/// Returns the lowest cell below `boundary` whose flag is not set, or None if there is none.
 fn least_clear(boundary: u32, flags: &[bool]) -> Option<u32>
     ensures { result ≡ least_below (λ cell. not (slice_index_or flags.now cell false)) boundary }
 {
@@ -100,7 +100,7 @@ fn are_set(on: &[bool], off: &[bool], place: usize) -> bool
     is_set(on, place) && is_set(off, place)
 }
 
-/// Returns the lowest cell whose flag is set in both tables.
+/// Returns the lowest cell below `boundary` whose flag is set in both tables.
 fn least_with_both(boundary: u32, on: &[bool], off: &[bool]) -> Option<u32>
     ensures { result ≡ least_below (λ cell.
         slice_index_or on.now cell false && slice_index_or off.now cell false) boundary }
@@ -153,7 +153,8 @@ fn count_one(table: &mut Vec<u32>, cell: u32)
     table[cell as usize] += 1;
 }
 
-/// Returns, for each cell, the number of its entries that are for the stage.
+/// Returns, for each cell, the number of its entries that are for the stage. There must be fewer
+/// than 2^32 entries.
 fn counts_of(
     alloc: Global,
     stage: Stage,
@@ -184,7 +185,8 @@ fn is_several(counts: &[u32], place: usize) -> bool
     }
 }
 
-/// Returns the lowest cell that has more than one loader or more than one writer.
+/// Returns the lowest cell below `boundary` that has more than one entry for its capture stage
+/// (counted in `loaders`) or for its update latch (counted in `writers`).
 fn least_several(boundary: u32, loaders: &[u32], writers: &[u32]) -> Option<u32>
     ensures { result ≡ least_below (λ cell.
         nat_lt 1 (slice_index loaders.now cell) || nat_lt 1 (slice_index writers.now cell)) boundary }
@@ -197,7 +199,8 @@ fn least_several(boundary: u32, loaders: &[u32], writers: &[u32]) -> Option<u32>
     None
 }
 
-/// Checks rule V12. Returns the lowest cell that has two entries for its capture stage or two for its update latch.
+/// Checks rule V12. Returns the lowest cell that has two entries for its capture stage or two for
+/// its update latch. There must be fewer than 2^32 entries.
 #[tactic(auto, unfolding(crate::specs::Cells::v12))]
 pub(crate) fn crowded_cell(
     alloc: Global,

@@ -22,7 +22,8 @@ fn key_of(word: &PortWord) -> Option<Key>
     }
 }
 
-/// Returns the words of the compliance patterns, which name the bits that the patterns are for.
+/// Returns the words that name the bits of the compliance patterns. Returns no words if there are
+/// no patterns.
 fn words_of(compliance: &Option<Compliance>) -> &[PortWord]
     ensures { result.now ≡ compliance_words compliance.now }
 {

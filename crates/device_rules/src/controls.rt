@@ -76,7 +76,9 @@ impl<'a> Controls<'a> {
         is_set(&self.flags, cell as usize)
     }
 
-    /// Returns whether the entry has a control that it may not have, or lacks a control that it needs.
+    /// Returns whether the entry breaks rule V10: it lacks a control that it needs, it has one that
+    /// it may not have, or its control is neither the entry's own cell nor a cell with a CONTROL or
+    /// CONTROLR entry.
     fn breaks(&self, entry: &Entry) -> bool
         ensures { result ≡ breaks_control self.now entry.now }
     {
@@ -107,8 +109,12 @@ impl<'a> Controls<'a> {
     }
 }
 
-/// Checks rule V10. Returns the number of the first entry, counted from 1, that has a control that it may not have or
-/// lacks a control that it needs.
+/// Checks rule V10. Returns the number of the first entry, counted from 1, that breaks it. An
+/// OUTPUT3 or BIDIR entry must have a control, an OUTPUT2 entry may have one, and no other entry
+/// may. The control cell must be the entry's own cell or have a CONTROL or CONTROLR entry.
+///
+/// The cell number of each entry must be below `boundary`, and there must be fewer than 2^32
+/// entries.
 pub(crate) fn wrong_control(
     alloc: Global,
     boundary: u32,

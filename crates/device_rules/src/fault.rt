@@ -1,4 +1,4 @@
-//! Why a draft describes no device.
+//! The reasons why a draft describes no device.
 ghost use Rattle.std.specs.Prelude.{◌≡◌, alloc_error};
 ghost use Rattle.device_rules.specs.declared.fault.DraftFault.TheVariants.{Memory};
 
@@ -6,7 +6,7 @@ use crate::broken::Broken;
 use std::alloc::AllocError;
 use thiserror::Error;
 
-/// The first rule that a draft breaks, or a refusal of memory.
+/// The first rule that a draft breaks, or lack of memory.
 #[derive(Clone, Copy, Debug, PartialEq, Eq, Error)]
 pub enum DraftFault {
     #[error("rule V{} item {}", .0.rule, .0.item)]

@@ -29,7 +29,8 @@ impl<'a> Model for IndexedDraft<'a> {
 }
 
 impl<'a> IndexedDraft<'a> {
-    /// Returns the draft with an index of its ports.
+    /// Returns the draft with an index of its ports. The ports must keep rule V2, and the draft's
+    /// lists must be shorter than 2^32.
     pub fn of(alloc: Global, text: &'a Draft) -> Result<IndexedDraft<'a>, AllocError>
         requires short { HasShortLists text.now }
         requires rule { v2 text.now.ports ≡ None }

@@ -57,8 +57,8 @@ pub fn finds_the_first()
         → IsFound (λ before entry. breaks_mode ports taps entry) entries (v14 ports taps entries) }
 {}
 
-/// If a draft breaks no rule and the lengths of its registers are in their ranges, the record of
-/// the draft keeps the rules of devices.
+/// If a draft breaks no rule and the lengths of its registers are in their ranges, the record that
+/// `raw_device` makes of it keeps the rules of devices.
 pub fn devices_keep_rules()
     ensures { (draft : Draft) → HasLengths draft → first_rule draft ≡ None
         → IsDevice (raw_device draft) }

@@ -13,11 +13,11 @@ use indexmap::IndexMap;
 use std::alloc::{AllocError, Global};
 use std::marker::Model;
 
-/// An item with the name of a port.
+/// An item that has the name of a port.
 pub trait Named {
     ghost name_in: { Self → List ℕ };
 
-    /// Returns the name.
+    /// Returns the name of the port.
     fn name(&self) -> &[u8]
         ensures { result.now ≡ name_in self.now };
 }
@@ -49,7 +49,8 @@ fn names_of<'a, T: Named>(alloc: Global, items: &'a [T]) -> Result<Vec<&'a [u8]>
     Ok(names)
 }
 
-/// Returns a map from each name to its first place in the list.
+/// Returns a map from each name to its first place in the list, counted from 0. There must be fewer
+/// than 2^32 names.
 fn first_places_of<'a>(
     alloc: Global,
     names: &[&'a [u8]],
@@ -61,7 +62,8 @@ fn first_places_of<'a>(
     first_places(alloc, names)
 }
 
-/// Returns a map from each name to the place of the first item with this name.
+/// Returns a map from each name to the place of the first item with this name, counted from 0.
+/// There must be fewer than 2^32 items.
 fn places_of<'a, T: Named>(
     alloc: Global,
     items: &'a [T],
@@ -101,7 +103,7 @@ impl<'a, T: Named> Model for NameIndex<'a, T> {
 }
 
 impl<'a, T: Named> NameIndex<'a, T> {
-    /// Returns these items with their index.
+    /// Returns these items, fewer than 2^32, with their index.
     pub fn of(alloc: Global, items: &'a [T]) -> Result<NameIndex<'a, T>, AllocError>
         requires { length items.now < 2 ^ 32 }
         ensures { IfOk result (λ index. index ≡ items.now) }

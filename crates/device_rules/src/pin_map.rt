@@ -59,9 +59,10 @@ fn some_repeats<'a>(seen: &mut HashSet<&'a [u8]>, pins: &'a [Name]) -> Result<bo
     Ok(false)
 }
 
-/// Checks rule V4. Returns the number of the first wrong entry, counted from 1. An entry is wrong if it names no port,
-/// if an earlier entry names its port, if it does not have as many pins as its port has bits, or if one of its pins
-/// occurs twice in the map.
+/// Checks rule V4. Returns the number of the first wrong entry, counted from 1. An entry is wrong
+/// if it names no port, if an earlier entry names its port, if it does not have as many pins as its
+/// port has bits, or if one of its pins occurs twice in the entry or is in an earlier entry. There
+/// must be fewer than 2^32 entries.
 #[tactic(auto, unfolding(crate::specs::PinMap::v4))]
 pub(crate) fn wrong_map_entry(
     alloc: Global,

@@ -31,8 +31,9 @@ fn breaks_place(ports: &PortIndex, near: &mut Near, entry: &Entry) -> bool
     }
 }
 
-/// Checks rule V9. Returns the number of the first entry at a wrong place, counted from 1. A CONTROL, CONTROLR or INTERNAL
-/// entry must be at `*`, and any other entry must be on a port bit.
+/// Checks rule V9. Returns the number of the first entry at a wrong place, counted from 1. A
+/// CONTROL, CONTROLR or INTERNAL entry must be at `*`, and any other entry must be on a port bit.
+/// There must be fewer than 2^32 entries.
 #[tactic(auto, unfolding(crate::specs::Places::v9))]
 pub(crate) fn wrong_place(ports: &PortIndex, entries: &[Entry]) -> Option<u32>
     requires { length entries.now < 2 ^ 32 }
@@ -59,8 +60,8 @@ fn driven_bit(ports: &PortIndex, near: &mut Near, entry: &Entry) -> Option<u32>
     }
 }
 
-/// Checks rule V13. Returns the number of the first entry, counted from 1, that drives the same port bit as an earlier
-/// entry.
+/// Checks rule V13. Returns the number of the first entry, counted from 1, that drives the same
+/// port bit as an earlier entry. There must be fewer than 2^32 entries.
 #[tactic(auto, unfolding(crate::specs::Places::v13))]
 pub(crate) fn second_driver(
     alloc: Global,
@@ -111,8 +112,8 @@ fn is_misfit(ports: &PortIndex, near: &mut Near, taps: &TapPorts, entry: &Entry)
     }
 }
 
-/// Checks rule V14. Returns the number of the first entry, counted from 1, that is on a TAP port or drives a port of
-/// mode in or linkage.
+/// Checks rule V14. Returns the number of the first entry, counted from 1, that is on a TAP port or
+/// drives a port of mode in or linkage. There must be fewer than 2^32 entries.
 #[tactic(auto, unfolding(crate::specs::Places::v14))]
 pub(crate) fn misfit(ports: &PortIndex, taps: &TapPorts, entries: &[Entry]) -> Option<u32>
     requires { length entries.now < 2 ^ 32 }

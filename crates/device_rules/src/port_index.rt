@@ -1,4 +1,5 @@
-//! An index that finds ports by their names and the numbers of their bits.
+//! An index of ports. It finds a port by its name, and the number of a port bit by the name and the
+//! index of the bit.
 ghost use Rattle.std.specs.Prelude.{◌≡◌, ◌<◌, ◌^◌, Some, None, true, length, take, IfOk, IfSome};
 ghost use Rattle.std.specs.Option.{option_copied};
 ghost use Rattle.std.specs.List.{position_from};
@@ -12,7 +13,8 @@ use bsdl_strings::PortWord;
 use std::alloc::{AllocError, Global};
 use std::marker::Model;
 
-/// Returns the number of bits before each port, followed by the number of all bits.
+/// Returns the number of bits before each port, followed by the number of all bits. The ports must
+/// keep rule V2.
 fn starts_of(alloc: Global, ports: &[Port]) -> Result<Vec<u32>, AllocError>
     requires { v2 ports.now ≡ None }
     ensures { IfOk result (λ starts. AreBitStarts ports.now starts.items) }
@@ -61,7 +63,7 @@ pub struct Near {
 }
 
 impl Near {
-    /// Returns the numbers with which a series of look-ups begins.
+    /// Returns the port numbers with which a series of look-ups begins.
     pub fn new() -> Near {
         Near { last: 0, before: 0 }
     }
@@ -89,7 +91,8 @@ impl<'a> Model for PortIndex<'a> {
 }
 
 impl<'a> PortIndex<'a> {
-    /// Returns these ports with their index.
+    /// Returns these ports with their index. The ports must keep rule V2, and there must be fewer
+    /// than 2^32 of them.
     pub fn of(alloc: Global, ports: &'a [Port]) -> Result<PortIndex<'a>, AllocError>
         requires short { length ports.now < 2 ^ 32 }
         requires rule { v2 ports.now ≡ None }
@@ -109,9 +112,8 @@ impl<'a> PortIndex<'a> {
         self.ports.as_slice()
     }
 
-    /// Returns whether the port at `place` has this name. Port names differ, so no other port has
-    /// the name then. The contract says nothing about the result false, since a wrong false would
-    /// only cost time.
+    /// Returns whether the port at `place` has this name. If it has, no other port has the name,
+    /// since port names differ. The contract allows a wrong false, which would only cost time.
     fn has_name(&self, place: u32, name: &[u8]) -> bool
         ensures { result ≡ true → port_number self.now name.now ≡ Some place }
     {
@@ -156,7 +158,7 @@ impl<'a> PortIndex<'a> {
         }
     }
 
-    /// Returns the number of bits before port `number`.
+    /// Returns the number of bits before port `number`, which must be one of the ports.
     fn start_of(&self, number: u32) -> u32
         requires { number < length self.now }
         ensures { result ≡ bit_total (take number self.now) }

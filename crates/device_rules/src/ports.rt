@@ -23,7 +23,8 @@ fn is_in_order(range: Option<Range>) -> bool
     }
 }
 
-/// Returns the number of bits of a port with this range.
+/// Returns the number of bits of a port with this range, which is 1 if there is no range or if the
+/// range is out of order.
 pub(crate) fn bit_count(range: Option<Range>) -> u64
     ensures count { result ≡ width range }
     ensures fits { result < 2 ^ 33 }
@@ -40,8 +41,9 @@ pub(crate) fn bit_count(range: Option<Range>) -> u64
     }
 }
 
-/// Checks rule V2. Returns the number of the first wrong port, counted from 1. A port is wrong if an earlier port has
-/// its name, if its range is out of order, or if the ports up to this one have more than `MOST_BITS` bits.
+/// Checks rule V2. Returns the number of the first wrong port, counted from 1. A port is wrong if
+/// an earlier port has its name, if its range is out of order, or if the ports up to this one have
+/// more than `MOST_BITS` bits. There must be fewer than 2^32 ports.
 #[tactic(auto, unfolding(crate::specs::Ports::v2))]
 pub(crate) fn wrong_port(alloc: Global, ports: &[Port]) -> Result<Option<u32>, AllocError>
     requires { length ports.now < 2 ^ 32 }

@@ -50,7 +50,8 @@ fn pin_of(alloc: Global, entry: Option<&MapEntry>, place: u32) -> Result<Option<
     }
 }
 
-/// Returns the index at `place` in the range, where places count from left to right. Returns None without a range.
+/// Returns the index at `place` in the range, or None without a range. Places count from 0, from
+/// left to right. `place` must be below the number of bits of the range.
 fn index_at(range: Option<Range>, place: u32) -> Option<u32>
     requires { place < width range }
     ensures { result ≡ index_at range place }
@@ -67,7 +68,8 @@ fn index_at(range: Option<Range>, place: u32) -> Option<u32>
     }
 }
 
-/// Appends the bits of a port to the list, in order from left to right.
+/// Appends the bits of a port to the list, in order from left to right. The port's range must be in
+/// order and have fewer than 2^32 bits.
 fn push_bits(
     alloc: Global,
     pins: &NameIndex<MapEntry>,
@@ -130,7 +132,8 @@ fn described_bits(alloc: Global, draft: &IndexedDraft) -> Result<Vec<PortBit>, A
     all_bits(alloc, draft.ports(), &pins, &text.taps, &named)
 }
 
-/// Returns the boundary entry as a cell, with the number of the port bit that the entry is on.
+/// Returns the boundary entry as a cell, with the number of the port bit that the entry is on, if
+/// there is one.
 fn cell_of(ports: &PortIndex, near: &mut Near, entry: &Entry) -> Cell
     ensures { result ≡ cell_of ports.now entry.now }
 {
@@ -143,8 +146,8 @@ fn cell_of(ports: &PortIndex, near: &mut Near, entry: &Entry) -> Cell
     }
 }
 
-/// Returns the entries as cells, in the order of the text, each with the number of the port bit
-/// that it is on.
+/// Returns the entries as cells, in the order of the text. Each cell has the number of the port bit
+/// that the entry is on, if there is one.
 #[tactic(auto, unfolding(crate::specs::Raw::raw_cells))]
 fn all_cells(alloc: Global, ports: &PortIndex, entries: &[Entry]) -> Result<Vec<Cell>, AllocError>
     ensures { IfOk result (λ cells. cells.items ≡ raw_cells ports.now entries.now) }
@@ -199,7 +202,8 @@ fn parts_of(alloc: Global, draft: &IndexedDraft) -> Result<Parts, AllocError>
     })
 }
 
-/// Returns the parts of the device, or the first rule that the draft breaks.
+/// Returns the parts of the device, or the first rule that the draft breaks. The draft's lists must
+/// be shorter than 2^32.
 fn checked_parts(alloc: Global, draft: &Draft) -> Result<Parts, DraftFault>
     requires { HasShortLists draft.now }
     ensures { IfSound draft.now (λ parts. parts ≡ parts_of draft.now) result }
@@ -210,7 +214,8 @@ fn checked_parts(alloc: Global, draft: &Draft) -> Result<Parts, DraftFault>
     }
 }
 
-/// Returns the record of the device with these parts. Everything else is moved out of the draft.
+/// Returns the record of the device with these parts, which must be the parts of this draft. Moves
+/// everything else out of the draft.
 fn with_parts(draft: Draft, parts: Parts) -> RawDevice
     requires { parts ≡ parts_of draft }
     ensures { result ≡ raw_device draft }
@@ -230,11 +235,12 @@ fn with_parts(draft: Draft, parts: Parts) -> RawDevice
     }
 }
 
-/// Returns the record of the device that the draft describes. Otherwise returns the first of the rules V2 to V14 that the draft
-/// breaks, with the first item that breaks it.
+/// Returns the record of the device that the draft describes, if the draft breaks none of the rules
+/// V2 to V14. Otherwise returns the first of these rules that the draft breaks, with the first item
+/// that breaks it. The draft's lists must be shorter than 2^32.
 ///
-/// The record keeps the rules of devices if the lengths of the registers are in their ranges. These are 2 to 255 bits for the
-/// instruction register and 1 to 65,535 cells for the boundary register.
+/// The record keeps the rules of devices if the lengths of the registers are in their ranges. These
+/// are 2 to 255 bits for the instruction register and 1 to 65,535 cells for the boundary register.
 pub fn raw_device(alloc: Global, draft: Draft) -> Result<RawDevice, DraftFault>
     requires { HasShortLists draft }
     ensures raw { IfSound draft (λ raw. raw ≡ raw_device draft) result }

@@ -1,4 +1,4 @@
-//! The rules, in the order in which they are checked.
+//! Checks the rules V2 to V14 in order.
 ghost use Rattle.std.specs.Prelude.{◌≡◌, ◌<◌, All, IfOk};
 ghost use Rattle.device_rules.specs.Rules.{HasShortLists, from_3, from_5, from_8, from_9, from_11, IfSound};
 
@@ -15,7 +15,8 @@ use crate::taps::wrong_attribute;
 use instruction_rules::{wrong_instruction, wrong_opcode, wrong_pattern};
 use std::alloc::{AllocError, Global};
 
-/// Returns the first of the rules V11 to V14 that the draft breaks.
+/// Returns the first of the rules V11 to V14 that the draft breaks, with the first item that breaks
+/// it.
 #[tactic(auto, unfolding(crate::specs::Rules::from_11))]
 fn first_from_11(alloc: Global, draft: &IndexedDraft) -> Result<Option<Broken>, AllocError>
     ensures { IfOk result (λ broken. broken ≡ from_11 draft.now) }
@@ -37,8 +38,8 @@ fn first_from_11(alloc: Global, draft: &IndexedDraft) -> Result<Option<Broken>, 
     }
 }
 
-/// Returns the first of the rules V9 to V14 that the draft breaks. The cell number of each entry must be below the
-/// length of the boundary register.
+/// Returns the first of the rules V9 to V14 that the draft breaks, with the first item that breaks
+/// it. The cell number of each entry must be below the length of the boundary register.
 #[tactic(auto, unfolding(crate::specs::Rules::from_9))]
 fn first_from_9(alloc: Global, draft: &IndexedDraft) -> Result<Option<Broken>, AllocError>
     requires { All (λ entry. entry.num < draft.now.boundary) draft.now.entries }
@@ -55,7 +56,8 @@ fn first_from_9(alloc: Global, draft: &IndexedDraft) -> Result<Option<Broken>, A
     first_from_11(alloc, draft)
 }
 
-/// Returns the first of the rules V8 to V14 that the draft breaks.
+/// Returns the first of the rules V8 to V14 that the draft breaks, with the first item that breaks
+/// it.
 #[tactic(auto, unfolding(crate::specs::Rules::from_8))]
 fn first_from_8(alloc: Global, draft: &IndexedDraft) -> Result<Option<Broken>, AllocError>
     ensures { IfOk result (λ broken. broken ≡ from_8 draft.now) }
@@ -67,7 +69,8 @@ fn first_from_8(alloc: Global, draft: &IndexedDraft) -> Result<Option<Broken>, A
     }
 }
 
-/// Returns the first of the rules V5 to V14 that the draft breaks.
+/// Returns the first of the rules V5 to V14 that the draft breaks, with the first item that breaks
+/// it.
 #[tactic(auto, unfolding(crate::specs::Rules::from_5))]
 fn first_from_5(alloc: Global, draft: &IndexedDraft) -> Result<Option<Broken>, AllocError>
     ensures { IfOk result (λ broken. broken ≡ from_5 draft.now) }
@@ -86,7 +89,8 @@ fn first_from_5(alloc: Global, draft: &IndexedDraft) -> Result<Option<Broken>, A
     first_from_8(alloc, draft)
 }
 
-/// Returns the first of the rules V3 to V14 that the draft breaks.
+/// Returns the first of the rules V3 to V14 that the draft breaks, with the first item that breaks
+/// it.
 #[tactic(auto, unfolding(crate::specs::Rules::from_3))]
 fn first_from_3(alloc: Global, draft: &IndexedDraft) -> Result<Option<Broken>, AllocError>
     ensures { IfOk result (λ broken. broken ≡ from_3 draft.now) }
@@ -101,8 +105,9 @@ fn first_from_3(alloc: Global, draft: &IndexedDraft) -> Result<Option<Broken>, A
     first_from_5(alloc, draft)
 }
 
-/// Returns the draft with an index of its ports. Otherwise returns the first of the rules V2 to V14 that the draft breaks, with
-/// the first item that breaks it.
+/// Returns the draft with an index of its ports, if the draft breaks none of the rules V2 to V14.
+/// Otherwise returns the first of these rules that the draft breaks, with the first item that
+/// breaks it. The draft's lists must be shorter than 2^32.
 #[tactic(auto, unfolding(crate::specs::Rules::first_rule))]
 pub(crate) fn checked<'a>(alloc: Global, draft: &'a Draft) -> Result<IndexedDraft<'a>, DraftFault>
     requires { HasShortLists draft.now }

@@ -1,5 +1,5 @@
--- An index that finds ports by their names and port bits by their words, and an index of the pin
--- map.
+-- What the index of the ports, the index of the pin map and the set of compliance bits contain, and
+-- what they find.
 use Rattle.std.specs.Prelude.{◌≡◌, ℕ, ◌+◌, ◌-◌, ◌≤◌, List, [], length, map, take, nat_eq, Bool, false, ◌&&◌, if◌then◌else◌, Option, Some, None, nat_le, slice_index}
 use Rattle.std.specs.Borrow.{Bor}
 use Rattle.std.specs.Str.{bytes_eq}
@@ -49,7 +49,7 @@ index_place (Some range) (Some number) =
     if range.up then (if nat_le range.left number && nat_le number range.right then Some (number - range.left) else None) else
     if nat_le range.right number && nat_le number range.left then Some (range.left - number) else None
 
--- the index at a place of a range, where places count from left to right
+-- The index at a place of a range. Places count from 0, from left to right.
 abbrev pub index_at : Option Range → ℕ → Option ℕ
 index_at None place = None
 index_at (Some range) place = Some (if range.up then range.left + place else range.left - place)

@@ -1,4 +1,4 @@
--- The names are those of the items.
+-- The names in the map are the names of the items.
 use Rattle.std.proofs.Common.{◌∙◌, ap, map}
 use Rattle.std.proofs.lemmas.Result.{IfOk-weaker}
 use Rattle.device_rules.proofs.NameLemmas.{called_first}
