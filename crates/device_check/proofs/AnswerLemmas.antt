@@ -28,14 +28,11 @@ use Rattle.device_check.proofs.FoundLemmas.{found_is, lies_within}
 use Rattle.device_check.proofs.StringLemmas.{few_entries}
 use Rattle.device_check.proofs.TextLemmas.{short_strings}
 
--- if V1 fails, the answer is the fault of rule 1 whose item is the number of the source that V1
--- returns
 pub needs_answer : (entity : Entity) (given : Option (List ℕ)) (source : Source)
     → v1 entity given ≡ Err source
     → IsDeviceAnswer entity given (Err (Rule (rule_number Mandatory) (source_number source)))
 needs_answer entity given source e = inl (record { number_is = refl; source = source; wrong = e; item_is = refl })
 
--- if V1 holds and a string leaves its grammar, the fault of the first such string is the answer
 pub text_answer : (entity : Entity) (given : Option (List ℕ)) (found : FoundValues)
     (fault : DeviceFault) → v1 entity given ≡ Ok found
     → NamesPlace (LeavesFirst entity found strings_in_order) fault
@@ -59,7 +56,6 @@ judged_answer entity given found strings draft result e read is h = by_result re
     by_result (Err (Text attribute entry)) k = absurd k
     by_result (Err (Memory error)) k = tt
 
--- if V1 holds of a small entity and its strings have values, the lists of its draft are short
 short_lists : (entity : Entity) (given : Option (List ℕ)) (found : FoundValues) (strings : Strings)
     → IsSmall entity → v1 entity given ≡ Ok found → AreStrings entity found strings
     → HasShortLists (draft_of entity found strings)

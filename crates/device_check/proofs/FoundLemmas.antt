@@ -105,7 +105,6 @@ found_is entity given found e =
       chosen_is = c.value_is;
     })
 
--- if `within` returns a number, the number is from `least` to `most`
 pub lies_within : (least most : ℕ) (number : Option ℕ) (found : ℕ)
     → within least most number ≡ Some found → (least ≤ found) × (found ≤ most)
 lies_within least most None found e = cc

@@ -21,13 +21,10 @@ use Rattle.device_check.specs.declared.listing_table.Entries.TheVariants.{Nothin
 use Rattle.device_check.specs.DeviceText.{symbol_word, code_text, entries_of_cell, port_line, cell_line, cell_lines}
 use Rattle.device_check.specs.inner.ListingForms.{entries_in, Rises, Climbs}
 
--- the text of two joined codes is the text of the second code followed by the text of the first
 code_text-append : (a b : List Symbol) → code_text (a ++ b) ≡ code_text b ++ code_text a
 code_text-append [] b = sym (append-nil (code_text b))
 code_text-append (s ∷ a) b = ap (λ t. t ++ symbol_word s) (code_text-append a b) ∙ append_assoc (code_text b) (code_text a) (symbol_word s)
 
--- the text of the symbols after place `i` followed by the symbol at place `i` is the text of the
--- symbols from place `i` on
 pub code_text-more : (code : List Symbol) (i : ℕ) (d : Symbol) → i < length code
     → code_text (drop (i + 1) code) ++ symbol_word (get_or code i d) ≡ code_text (drop i code)
 code_text-more code i d within = sym (ap code_text (drop_more code i d within))
@@ -39,8 +36,6 @@ code_text-split code i d within =
     ∙ ap (λ t. t ++ code_text (take i code)) (code_text-more code i d within)
     ∙ sym (code_text-append (take i code) (drop i code)) ∙ ap code_text (take-append-drop i code)
 
--- if the symbols from place `at` on are printed and the symbol before them is printed next, the
--- symbols from place `at - 1` on are printed
 pub code_next : (code : List Symbol) (at : ℕ) (d : Symbol) (w : List ℕ) → 0 < at → at ≤ length code
     → w ≡ symbol_word (get_or code (at - 1) d)
     → code_text (drop at code) ++ w ≡ code_text (drop (at - 1) code)
@@ -59,7 +54,8 @@ code_left code at d w some within is =
     ∙ ap (λ t. code_text (drop (at - 1 + 1) code) ++ (t ++ code_text (take (at - 1) code))) is
     ∙ code_text-split code (at - 1) d (omega arith)
 
--- the pieces of the instruction register's line, joined as they are printed, are the whole line
+-- the pieces of the instruction register's line, joined in the order of printing, are the whole
+-- line
 pub instruction_pieces : (a b c d e : List ℕ) → whole (a ∷ b ∷ []) ++ (c ++ (d ++ (e ++ 10 ∷ []))) ≡ line_of (a ∷ b ∷ c ∷ d ∷ e ∷ [])
 instruction_pieces a b c d e = simp (append_assoc, append-nil)
 
@@ -77,8 +73,6 @@ code_pieces a b c d = simp (append_assoc, append-nil)
 pub two_pieces : (a b : List ℕ) → a ++ b ≡ whole (a ∷ b ∷ [])
 two_pieces a b = simp append-nil
 
--- the texts of the first `i` items followed by the text of item `i` are the texts of the first `i +
--- 1` items
 pub flat-more : {X : Type 0} (f : X → List ℕ) (xs : List X) (i : ℕ) (d : X) → i < length xs
     → flat_map f (take i xs) ++ f (get_or xs i d) ≡ flat_map f (take (i + 1) xs)
 flat-more f xs i d within =
@@ -93,8 +87,6 @@ flat-split f xs i d within =
     ap (λ t. flat_map f (take i xs) ++ t) (sym (ap (flat_map f) (drop_more xs i d within)))
     ∙ sym (flat_map-append f (take i xs) (drop i xs)) ∙ ap (flat_map f) (take-append-drop i xs)
 
--- the `n + m` numbers from `a` on are the `n` numbers from `a` on followed by the `m` numbers from
--- `a + n` on
 pub range-split : (a n m : ℕ) → range_with_len a (n + m) ≡ range_with_len a n ++ range_with_len (a + n) m
 range-split a n m = by n a
   where
@@ -115,8 +107,6 @@ none_here : (port : ℕ) (bit : PortBit) (bits : List PortBit) (t : Bool) → (b
 none_here port bit bits true same less none = let e : bit.port ≡ port = eqb-true bit.port port same in absurd (omega arith)
 none_here port bit bits false other less none = none
 
--- if the bits are in the order of their ports, and no port number is below `from`, no bit belongs
--- to a port below `from`
 none_before : (port from : ℕ) (bits : List PortBit) → port < from → Rises from bits → filter (λ bit. bit.port == port) bits ≡ []
 none_before port from [] less rises = refl
 none_before port from (bit ∷ bits) less rises =
@@ -184,7 +174,6 @@ pub split_at_port : (port : ℕ) (bits : List PortBit) → Rises port bits → I
 split_at_port port [] rises = record { own = refl; rises = tt; others = λ q less. refl }
 split_at_port port (x ∷ xs) rises = split_here port x xs (x.port == port) refl rises (λ r. split_at_port port xs r)
 
--- if the port numbers never decrease, and the first is at least `from`, `Rises` holds of the bits
 rises_from : (from : ℕ) (bits : List PortBit) → IsNonDecreasing (map (λ bit. bit.port) bits)
     → ((d : ℕ) → 0 < length bits → from ≤ get_or (map (λ bit. bit.port) bits) 0 d) → Rises from bits
 rises_from from [] order first = tt
@@ -197,8 +186,6 @@ rises_from from (x ∷ xs) order first = (
 pub rises_all : (bits : List PortBit) → IsNonDecreasing (map (λ bit. bit.port) bits) → Rises 0 bits
 rises_all bits order = rises_from 0 bits order (λ d some. omega arith)
 
--- if `n + m` is `k`, the texts of the numbers in `0..n` followed by the texts of the `m` numbers
--- from `n` on are the texts of the numbers in `0..k`
 pub range-cut : (f : ℕ → List ℕ) (n m k : ℕ) → n + m ≡ k
     → flat_map f (range_with_len 0 n) ++ flat_map f (range_with_len n m)
     ≡ flat_map f (range_with_len 0 k)
@@ -232,13 +219,10 @@ range-rest-one f n k within =
     ++ (t ++ flat_map f (range_with_len (n + 1) (k - (n + 1))))) (sym (append-nil (f n)))
     ∙ range-rest f n 1 k (omega arith)
 
--- ports with equal names and equal bits have equal lines
 pub port_same : (name name' : List ℕ) (bits bits' : List PortBit) → name ≡ name' → bits ≡ bits'
     → port_line name bits ≡ port_line name' bits'
 port_same name name' bits bits' n b = ap (λ t. port_line t bits) n ∙ ap (port_line name') b
 
--- the lines of cells `0..from` followed by the lines of the next `count` cells are the lines of
--- cells `0..from + count`
 pub cells_next : (ports : List (List ℕ)) (bits : List PortBit) (cells : List Cell) (from count n : ℕ) → n ≡ count
     → cell_lines ports bits cells 0 from ++ cell_lines ports bits cells from n ≡ cell_lines ports bits cells 0 (from + count)
 cells_next ports bits cells from count n same =
@@ -257,8 +241,6 @@ cells_left ports bits cells from count n all same within =
     ++ cell_lines ports bits cells (from + count) (all - (from + count)))) same
     ∙ range-rest (λ num. flat_map (cell_line ports bits) (entries_of_cell num cells)) from count all within
 
--- if a table has the entries of the `n` cells from `from` on, the lines of the table are the lines
--- of these cells
 table_lines : (ports : List (List ℕ)) (bits : List PortBit) (cells : List Cell) (from n : ℕ) (table : List Entries)
     → map entries_in table ≡ map (λ num. entries_of_cell num cells) (range_with_len from n)
     → flat_map (λ e. flat_map (cell_line ports bits) (entries_in e)) table
@@ -278,8 +260,6 @@ table_text ports ports' bits bits' cells cells' from n table p b s same =
     ∙ ap (λ l. cell_lines l bits' cells' from n) p ∙ ap (λ l. cell_lines ports l cells' from n) b
     ∙ ap (λ l. cell_lines ports bits l from n) s
 
--- if place `k` of a table has the entries of cell `from + k`, for each `k`, the table has the
--- entries of the cells from `from` on, in order
 pub table_is : (f : ℕ → List Cell) (from : ℕ) (table : List Entries)
     → ((k : ℕ) → k < length table → entries_in (get_or table k Nothing) ≡ f (from + k))
     → map entries_in table ≡ map f (range_with_len from (length table))
@@ -305,8 +285,6 @@ pub entries_step : (num : ℕ) (cells : List Cell) (i : ℕ) (d : Cell) (old new
 entries_step num cells i d old new within more before =
     more ∙ ap (λ l. l ++ cond ((get_or cells i d).num == num) (get_or cells i d ∷ []) []) before ∙ entries-more num cells i d within
 
--- if a cell has at most two entries, and entry `i` is one of them, at most one of the entries
--- before entry `i` belongs to the cell
 pub has_room : (num : ℕ) (cells : List Cell) (i : ℕ) (d : Cell) → i < length cells
     → (get_or cells i d).num ≡ num → length (entries_of_cell num cells) ≤ 2
     → length (entries_of_cell num (take i cells)) < 2
@@ -321,7 +299,6 @@ has_room num cells i d within same few =
     (drop_more cells i d within) ∙ ap (λ l. entries_of_cell num (take i cells) ++ l) here in
     omega (arith, ap length cut, length-append (entries_of_cell num (take i cells)) (x ∷ entries_of_cell num (drop (i + 1) cells)))
 
--- if no item passes a test, filtering gives the empty list
 none_more : (p : Cell → Bool) (xs : List Cell) → ((j : ℕ) (d : Cell) → slice_get xs j ≡ Some d → p d ≡ true → ⊥) → filter p xs ≡ []
 none_more p [] none = refl
 none_more p (x ∷ xs) none =
@@ -366,7 +343,7 @@ has_class Clock = refl
 has_class Bidir = refl
 has_class ObserveOnly = refl
 
--- the entry belongs to the cell, and `roles` is true of its function
+-- the entry belongs to the cell, and its function passes the test `roles`
 abbrev of_class : (Role → Bool) → ℕ → Cell → Bool
 of_class roles num cell = (cell.num == num) && roles cell.role
 
@@ -395,14 +372,13 @@ one_of roles device num one =
     let second = and_parts (d.num == num) (roles d.role) pass_d in
     one i j e d is_e is_d first.1 second.1 (eqb-true e.num num first.0 ∙ sym (eqb-true d.num num second.0)))
 
--- a cell has at most two entries: at most one that defines what it captures, and at most one for
--- its update latch
+-- each entry defines what its cell captures or is for the cell's update latch, and a cell has at
+-- most one entry of either kind
 pub few_entries : (device : RawDevice) → OneOf is_loading device → OneOf is_writing device
     → (num : ℕ) → length (entries_of_cell num device.cells) ≤ 2
 few_entries device loading writing num =
     omega (arith, two_classes num device.cells, one_of is_loading device num loading, one_of is_writing device num writing)
 
--- if `g` maps each of `n` numbers from `a` on to the empty list, the joined lists are empty
 flat_none : (g : ℕ → List ℕ) (n a : ℕ) → ((k : ℕ) → a ≤ k → k < a + n → g k ≡ []) → flat_map g (range_with_len a n) ≡ []
 flat_none g zero a none = refl
 flat_none g (suc n) a none =
@@ -473,8 +449,6 @@ ordered_text ports ports' bits bits' cells cells' most p b s climbs =
     ∙ ap (λ l. cell_lines l bits' cells' 0 most) p ∙ ap (λ l. cell_lines ports l cells' 0 most) b
     ∙ ap (λ l. cell_lines ports bits l 0 most) s
 
--- if entry `i` belongs to cell `least` or a later cell below `most`, and the entries after it are
--- in order from its cell on, the entries from entry `i` on are in order from `least` on
 pub climb_next : (least most : ℕ) (cells : List Cell) (i : ℕ) (d : Cell) → i < length cells
     → least ≤ (get_or cells i d).num → (get_or cells i d).num < most
     → Climbs (get_or cells i d).num most (drop (i + 1) cells) → Climbs least most (drop i cells)

@@ -15,21 +15,18 @@ use Rattle.device_check.specs.Attributes.{only_value, only_port, only_number, on
 use Rattle.device_check.specs.Needed.{need, and_then, unless_bad, within, is_repeated, conforms, found_taps, found_registers, wrong_option, found_package, v1}
 use Rattle.device_check.specs.NumberedSources.{breaks_source, reported}
 
--- what a search reports that needs a value and then reports `rest`
 needed : {A B : Type 0} (source : Source) (value : Option A) (next : A → Result B Source)
     (rest : Option ℕ) → ((it : A) → reported (next it) ≡ rest)
     → reported (need source value next) ≡ (if is_none value then Some (source_number source) else rest)
 needed source None next rest h = refl
 needed source (Some it) next rest h = h it
 
--- what a search reports whose first part reports `mine`, and whose second part reports `rest`
 both : {A B : Type 0} (first : Result A Source) (next : A → Result B Source) (mine rest : Option ℕ)
     → reported first ≡ mine → ((it : A) → reported (next it) ≡ rest)
     → reported (and_then first next) ≡ or_else mine rest
 both (Err source) next mine rest e h = ap (λ o. or_else o rest) e
 both (Ok it) next mine rest e h = h it ∙ ap (λ o. or_else o rest) e
 
--- what a search reports that ends at a wrong attribute, and otherwise reports `rest`
 after : {B : Type 0} (attribute : Option Attribute) (next : Result B Source) (mine rest : Option ℕ)
     → option_map attribute_number attribute ≡ mine → reported next ≡ rest
     → reported (unless_bad attribute next) ≡ or_else mine rest
@@ -47,7 +44,6 @@ four_cases false false true d = refl
 four_cases false false false true = refl
 four_cases false false false false = refl
 
--- the least of several numbers is among the first of them, or among the others
 least_split : (is : ℕ → Bool) (from a b : ℕ) → least_from is from (a + b) ≡ or_else (least_from is from a) (least_from is (from + a) b)
 least_split is from zero b =
     let none : zero + b ≡ b = omega arith in

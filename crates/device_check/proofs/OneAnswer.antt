@@ -29,7 +29,6 @@ use Rattle.device_check.specs.DeviceStrings.{MayBe, MayLeave, DeviceString, pin_
 use Rattle.device_check.specs.SoundDevice.{FailsNeed, FailsRule, FailsText, IsSound, draft_of, IsDeviceAnswer, device_told}
 use Rattle.device_check.proofs.StringLemmas.{one_number}
 
--- a pattern that leaves its grammar does so at only one place
 one_place : (text : List ℕ) (n m : ℕ) → IsNoPattern text n → IsNoPattern text m → n ≡ m
 one_place text n m x y = x.place ∙ sym y.place
 
@@ -45,7 +44,6 @@ maybe_once : (IsNo : List ℕ → ℕ → Type 0)
 maybe_once IsNo once None n m x y = absurd x
 maybe_once IsNo once (Some text) n m x y = once text n m x y
 
--- a string that leaves its grammar does so at only one entry
 leaves_once : (entity : Entity) (found : FoundValues) (string : DeviceString) (n m : ℕ)
     → Leaves entity found string n → Leaves entity found string m → n ≡ m
 leaves_once entity found pin_map n m x y = one_number (pieces found.chosen.pin_map) n m x y
@@ -64,8 +62,6 @@ maybe_not Is IsNo never None value n x y = y
 maybe_not Is IsNo never (Some text) None n x y = x
 maybe_not Is IsNo never (Some text) (Some value) n x y = never text value n x y
 
--- a string that has a value in its grammar, or that is optional and missing, does not leave its
--- grammar
 read_not_left : (entity : Entity) (found : FoundValues) (string : DeviceString) (n : ℕ)
     → IsReadString entity found string → Leaves entity found string n → ⊥
 read_not_left entity found pin_map n x y = y.no_value x.0 x.1
@@ -79,7 +75,6 @@ read_not_left entity found compliance n x y =
     (text_of_attribute entity CompliancePatterns) x.0 n x.1 y
 read_not_left entity found boundary n x y = y.no_value x.0 x.1
 
--- the first string that leaves its grammar, and the entry at which it does, are unique
 one_first : (entity : Entity) (found : FoundValues) (strings : List DeviceString) (a n b m : ℕ)
     → LeavesFirst entity found strings a n → LeavesFirst entity found strings b m
     → (a ≡ b) × (n ≡ m)
@@ -95,7 +90,6 @@ one_first entity found (string ∷ strings) a n b m x y = by x y (λ u v. one_fi
     by (inr u) (inl v) again = absurd (read_not_left entity found string m u.0 v.1)
     by (inr u) (inr v) again = again u.1 v.1
 
--- if each string has a value or is optional and missing, none is the first that leaves its grammar
 none_first : (entity : Entity) (found : FoundValues) (strings : List DeviceString) (a n : ℕ)
     → ((string : DeviceString) → IsReadString entity found string)
     → LeavesFirst entity found strings a n → ⊥
@@ -132,7 +126,7 @@ one_code text a b x y = x.1 ∙ sym y.1
 one_compliance : (text : List ℕ) (a b : Compliance) → IsCompliance text a → IsCompliance text b → a ≡ b
 one_compliance text a b x y = one_value strings_of.compliance compliance_takes (pieces text) a b x y
 
--- each string has at most one value, so there is at most one record of the values of all strings
+-- each string has at most one value
 one_strings : (entity : Entity) (found : FoundValues) (s t : Strings) → AreStrings entity found s → AreStrings entity found t → s ≡ t
 one_strings entity found s t x y =
     let map = one_value (list_of map_entry comma_or_end) (each_takes can_maps)
@@ -191,11 +185,9 @@ both_rules a n b m e f = rw (e, f) refl
 both_texts : (a n b m : ℕ) → a ≡ b → n ≡ m → ◌≡◌ {A = DeviceFault} (Text a n) (Text b m)
 both_texts a n b m e f = rw (e, f) refl
 
--- if V1 returns the values `f` and the values `g`, they are equal
 one_found : (entity : Entity) (given : Option (List ℕ)) (f g : FoundValues) → v1 entity given ≡ Ok f → v1 entity given ≡ Ok g → f ≡ g
 one_found entity given f g x y = ok_is f g (sym x ∙ y)
 
--- an entity has at most one draft for each package
 one_draft : (entity : Entity) (given : Option (List ℕ)) (f g : FoundValues) (s t : Strings)
     → v1 entity given ≡ Ok f → v1 entity given ≡ Ok g → AreStrings entity f s
     → AreStrings entity g t → draft_of entity f s ≡ draft_of entity g t
@@ -235,7 +227,6 @@ same_text entity given a n b m x y =
     y.leaves in
     both_texts a n b m same.0 same.1
 
--- if an entity has a sound device, it fails none of the rules V2 to V14
 not_broken : (entity : Entity) (given : Option (List ℕ)) (d : RawDevice) (b m : ℕ) {P : Type 0}
     → IsSound entity given d → FailsRule entity given b m → P
 not_broken entity given d b m x y =
@@ -243,7 +234,6 @@ not_broken entity given d b m x y =
     none_is_some (first_rule (draft_of entity y.found y.strings)) (record { rule = b; item = m })
     (sym (ap first_rule same) ∙ x.kept) y.broken
 
--- if V1 holds and all strings have values, no string leaves its grammar
 not_left : (entity : Entity) (given : Option (List ℕ)) (found : FoundValues) (strings : Strings)
     (b m : ℕ) {P : Type 0} → v1 entity given ≡ Ok found → AreStrings entity found strings
     → FailsText entity given b m → P

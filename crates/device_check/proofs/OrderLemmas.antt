@@ -1,5 +1,5 @@
--- The strings of an entity are read in order, and reading stops at the first string that leaves its
--- grammar.
+-- The strings of an entity are read in order, and reading stops at the first string that does not
+-- fit its grammar.
 use Rattle.std.proofs.Common.{ℕ, List, [], ◌∷◌, Option, inl, inr}
 use Rattle.board_defs.specs.declared.device.Symbol.{Symbol}
 use Rattle.bsdl_parser.specs.declared.entity.Entity.{Entity}
@@ -15,16 +15,12 @@ use Rattle.device_check.specs.Needed.{FoundValues}
 use Rattle.device_check.specs.DeviceStrings.{MayBe, DeviceString, pin_map, opcodes, capture, idcode, compliance, boundary, IsReadString, LeavesBy, LeavesFirst, strings_in_order}
 use Rattle.device_check.specs.inner.Reading.{NamesPlace}
 
--- if P implies Q, and a fault names a place of which P is true, the fault names a place of which Q
--- is true
 weaker : {P Q : ℕ → ℕ → Type 0} → ((attribute entry : ℕ) → P attribute entry → Q attribute entry)
     → (fault : DeviceFault) → NamesPlace P fault → NamesPlace Q fault
 weaker f (Rule number item) h = absurd h
 weaker f (Text attribute entry) h = f attribute entry h
 weaker f (Memory error) h = tt
 
--- if a fault names the place at which the first of the strings leaves its grammar, the fault names
--- the first string that leaves its grammar
 first_leaves : (entity : Entity) (found : FoundValues) (string : DeviceString)
     (strings : List DeviceString) (fault : DeviceFault)
     → NamesPlace (LeavesBy entity found string) fault

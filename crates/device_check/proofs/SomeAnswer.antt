@@ -46,8 +46,8 @@ first_takes : EachTurnTakes first_parenthesis
 unfolding grammar.compliance
 first_takes = compliance_takes.0
 
--- the number of the part of the string at which a wrong value of COMPLIANCE_PATTERNS goes wrong: 2
--- if the string begins with a whole first parenthesis, and 1 if it does not
+-- the number in the fault of COMPLIANCE_PATTERNS is 2 if the string begins with a whole first
+-- parenthesis, and otherwise 1
 which_parenthesis : (text : List ℕ) → (n : ℕ) × (((n ≡ 1) × ¬ HasFirstParenthesis text) ⊎ ((n ≡ 2) × HasFirstParenthesis text))
 which_parenthesis text = by_reader (reader_of_grammar first_parenthesis (pieces text)) refl
   where
@@ -99,8 +99,6 @@ maybe_answered {A} Is IsNo answers (Some text) = by_answer (answers text)
     by_answer (inl x) = inl (Some x.0, x.1)
     by_answer (inr y) = inr y
 
--- each string is read, which means that it has a value or is optional and missing, or it leaves its
--- grammar at some entry
 read_or_left : (entity : Entity) (needs : FoundValues) (string : DeviceString)
     → IsReadString entity needs string ⊎ ((n : ℕ) × Leaves entity needs string n)
 read_or_left entity needs pin_map = list_answered can_maps needs.chosen.pin_map

@@ -1,4 +1,4 @@
--- Each string either is in its grammar or leaves the grammar at exactly one entry.
+-- Each string either fits its grammar, or has exactly one first entry that does not fit.
 use Rattle.std.proofs.Common.{◌≡◌, ℕ, zero, suc, ◌+◌, ◌*◌, ◌<◌, ◌≤◌, ◌^◌, Bool, true, false, List, [], ◌∷◌, ◌++◌, length, ◌⊎◌, inl, inr, refl, subst, arith, length-append, zero-add}
 use Rattle.std.proofs.Math.Nat.{lt_of_not-le}
 use Rattle.std.specs.List.{take_while}
@@ -14,14 +14,13 @@ use Rattle.bsdl_strings.specs.Places.{Part, comma_or_end, is_code_piece, code_of
 use Rattle.bsdl_strings.specs.Strings.{IsListOf, IsPattern, IsNoPattern}
 use Rattle.bsdl_strings.proofs.PieceLemmas.{length_pieces}
 
--- either the tokens are a list, and each entry and each mark takes at least one token, or the list
--- goes wrong at some entry
+-- The tokens are a list, or the list goes wrong at some entry. A list has at most half as many
+-- entries as tokens, since each entry and each mark takes at least one token.
 pub data Answered {T A : Type 0} (entry : Grammar T A) (more : Grammar T Bool) (tokens : List T) : Type 0 where
   listed : (values : List A) → (production_of (list_of entry more)).Whole tokens values
       → 2 * length values ≤ length tokens → Answered entry more tokens
   wrong : (number : ℕ) → GoesWrongAt entry more number tokens → Answered entry more tokens
 
--- if the list ends after some entry and tokens are left, the list goes wrong at that entry
 ends_early : {T A : Type 0} {entry : Grammar T A} {more : Grammar T Bool} → CanRead entry more
     → (tokens here mid : List T) (t : T) (rest : List T) (before : List A) (one : A)
     → Progress entry more tokens here before → reader_of_grammar entry here ≡ found one mid
@@ -51,7 +50,6 @@ ends_early {T} {A} {entry} {more} can tokens here mid t rest before one so_far e
         let yes : h.next.value ≡ true = h.next.next.0 in
         cc (k, f, yes)
 
--- if the list ends and no tokens are left, the tokens are a list
 ends_there : {T A : Type 0} {entry : Grammar T A} {more : Grammar T Bool} → CanRead entry more
     → (tokens here mid : List T) (before : List A) (one : A)
     → Progress entry more tokens here before → reader_of_grammar entry here ≡ found one mid
@@ -96,7 +94,6 @@ answered {A} {entry} can text =
     answered_from can (suc (length (pieces text))) (pieces text) (pieces text) []
     (begins entry comma_or_end (pieces text)) (omega arith)
 
--- tokens that begin with `n` whole entries also begin with `m` whole entries for each `m` up to `n`
 fewer_stand : {T A : Type 0} (entry : Grammar T A) (more : Grammar T Bool) (n m : ℕ)
     (tokens : List T) → m ≤ n → Fronts entry more n tokens → Fronts entry more m tokens
 fewer_stand entry more n zero tokens le h = tt
@@ -120,7 +117,6 @@ fewer_stand entry more (suc n) (suc m) tokens le h = record {
       };
 }
 
--- a list that goes wrong does so at only one entry
 pub one_number : {T A : Type 0} {entry : Grammar T A} {more : Grammar T Bool} (tokens : List T)
     (n m : ℕ) → GoesWrongAt entry more n tokens → GoesWrongAt entry more m tokens → n ≡ m
 one_number {T} {A} {entry} {more} tokens n m x y =
@@ -128,7 +124,6 @@ one_number {T} {A} {entry} {more} tokens n m x y =
     let b : y.whole < suc x.whole = lt_of_not-le (λ le. x.no_more (fewer_stand entry more y.whole (suc x.whole) tokens le y.stand)) in
     omega (arith, x.next, y.next)
 
--- a list in a string of fewer than 2^32 bytes has fewer than 2^32 entries
 pub few_entries : {A : Type 0} {entry : Part A} → CanRead entry comma_or_end
     → (text : List ℕ) (values : List A) → IsListOf entry text values → length text < 2 ^ 32
     → length values < 2 ^ 32
@@ -141,7 +136,6 @@ few_entries {A} {entry} can text values is short = by_answer (answered can text)
         omega (arith, (length_pieces text).1)
     by_answer (wrong number h) = absurd (h.no_value values is)
 
--- either a string is a pattern, or it leaves the grammar of patterns at some place
 pub pattern_answered : (text : List ℕ) → ((code : List Symbol) × IsPattern text code) ⊎ ((number : ℕ) × IsNoPattern text number)
 pattern_answered text = by_test (is_code_piece text) refl
   where

@@ -17,7 +17,6 @@ use Rattle.device_check.specs.Needed.{FoundPackage, FoundValues, pin_map_in, fou
 use Rattle.device_check.specs.inner.Reading.{HasShortStrings}
 use Rattle.device_check.proofs.FoundLemmas.{IsFound, found_is}
 
--- if all items of a list have a property, the item that `find` returns has it
 found_holds : {X : Type 0} (P : X → Type 0) (test : X → Bool) (xs : List X) → All P xs → IfSome (find test xs) P
 found_holds P test [] all = tt
 found_holds P test (x ∷ xs) all = by_x (test x) (found_holds P test xs (All-tail P x xs all))
@@ -90,7 +89,6 @@ short_pin_map : (entity : Entity) (name : Option (List ℕ)) (chosen_package : F
 short_pin_map entity None chosen_package all e = cc
 short_pin_map entity (Some name) chosen_package all e = short_only_constant entity name chosen_package all e
 
--- the strings that V1 finds in a small entity are short
 pub short_strings : (entity : Entity) (given : Option (List ℕ)) (found : FoundValues)
     → IsSmall entity → v1 entity given ≡ Ok found → HasShortStrings found
 short_strings entity given found small e =

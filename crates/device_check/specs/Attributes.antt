@@ -21,11 +21,11 @@ is_numbered number attribute = attribute.number == number
 abbrev pub times : Entity → Attribute → ℕ
 times entity attribute = count_by (is_numbered (attribute_number attribute)) entity.attributes
 
--- the value of the attribute at its first place
+-- the attribute's value, which is the first one if the entity has several
 abbrev pub value_of_attribute : Entity → Attribute → Option AttrValue
 value_of_attribute entity attribute = option_map (λ found. found.value) (find (is_numbered (attribute_number attribute)) entity.attributes)
 
--- the value of an attribute that the entity has exactly once
+-- the attribute's value, if the entity has the attribute exactly once
 abbrev pub only_value : Entity → Attribute → Option AttrValue
 only_value entity attribute = if times entity attribute == 1 then value_of_attribute entity attribute else None
 
@@ -47,23 +47,23 @@ text_in (values.Port port) = None
 text_in (values.Number number) = None
 text_in (values.Text text) = Some text
 
--- the port that is the value of the attribute, as of a TAP attribute
+-- the port that is the attribute's value, if the value is a port
 abbrev pub port_of_attribute : Entity → Attribute → Option (List ℕ)
 port_of_attribute entity attribute = option_and_then port_in (value_of_attribute entity attribute)
 
--- the string that is the attribute's value
+-- the string that is the attribute's value, if the value is a string
 abbrev pub text_of_attribute : Entity → Attribute → Option (List ℕ)
 text_of_attribute entity attribute = option_and_then text_in (value_of_attribute entity attribute)
 
--- the port that is the value of an attribute that the entity has exactly once
+-- the port that is the attribute's value, if the entity has the attribute exactly once
 abbrev pub only_port : Entity → Attribute → Option (List ℕ)
 only_port entity attribute = option_and_then port_in (only_value entity attribute)
 
--- the number that is the value of an attribute that the entity has exactly once
+-- the number that is the attribute's value, if the entity has the attribute exactly once
 abbrev pub only_number : Entity → Attribute → Option ℕ
 only_number entity attribute = option_and_then number_of_value (only_value entity attribute)
 
--- the string that is the value of an attribute that the entity has exactly once
+-- the string that is the attribute's value, if the entity has the attribute exactly once
 abbrev pub only_text : Entity → Attribute → Option (List ℕ)
 only_text entity attribute = option_and_then text_in (only_value entity attribute)
 

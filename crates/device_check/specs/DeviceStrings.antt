@@ -1,5 +1,5 @@
 -- The strings of an entity that are read after V1 holds: their values, and the first string that
--- leaves its grammar.
+-- leaves its grammar. A string leaves its grammar at its first entry that does not fit.
 use Rattle.std.specs.Prelude.{◌≡◌, ℕ, List, [], ◌∷◌, Option, Some, None, ◌⊎◌}
 use Rattle.board_defs.specs.declared.device.Symbol.{Symbol}
 use Rattle.bsdl_parser.specs.declared.entity.Entity.{Entity}
@@ -47,7 +47,7 @@ source_of idcode = sources.Attribute IdcodeRegister
 source_of compliance = sources.Attribute CompliancePatterns
 source_of boundary = sources.Attribute BoundaryRegister
 
--- the number by which a fault names the string
+-- the number that a fault has for the string
 abbrev pub string_number : DeviceString → ℕ
 string_number string = source_number (source_of string)
 
@@ -73,8 +73,8 @@ Leaves entity found boundary entry = IsNoBoundary found.registers.boundary entry
 abbrev pub LeavesBy : Entity → FoundValues → DeviceString → ℕ → ℕ → Type 0
 LeavesBy entity found string attribute entry = (attribute ≡ string_number string) × Leaves entity found string entry
 
--- `attribute` is the number of the first string that leaves its grammar, and that string leaves it
--- at this entry; the strings before it are read
+-- `attribute` is the number of the first string that leaves its grammar, and `entry` is the entry
+-- at which it does. Each string before it has a value, or is optional and missing.
 abbrev pub LeavesFirst : Entity → FoundValues → List DeviceString → ℕ → ℕ → Type 0
 LeavesFirst entity found [] attribute entry = ⊥
 LeavesFirst entity found (string ∷ strings) attribute entry =

@@ -35,24 +35,26 @@ pub record FoundValues : Type 0 where
   pub registers : FoundRegisters
   pub chosen : FoundPackage
 
--- applies the next step to the value; without a value, the result is the source, which then is
--- missing or wrong
+-- The result of the next step for the value. If there is no value, the source is missing or wrong,
+-- and the source is the error.
 abbrev pub need : {A B : Type 0} → Source → Option A → (A → Result B Source) → Result B Source
 need source None next = Err source
 need source (Some value) next = next value
 
--- like `need`, but takes the result of another search instead of a value, and passes its error on
+-- like `need`, but takes the result of another search instead of a value, and returns the error of
+-- that search unchanged
 abbrev pub and_then : {A B : Type 0} → Result A Source → (A → Result B Source) → Result B Source
 and_then (Err source) next = Err source
 and_then (Ok value) next = next value
 
--- the result `next` of the next step, or the attribute as the source if an attribute is wrong
+-- the result `next` of the next step, or the attribute as the error if an attribute is wrong
 abbrev pub unless_bad : {B : Type 0} → Option Attribute → Result B Source → Result B Source
 unless_bad (Some attribute) next = Err (sources.Attribute attribute)
 unless_bad None next = next
 
--- the ports that the four mandatory TAP attributes name, or the first of PIN_MAP and these
--- attributes that the entity does not have exactly once or whose value has the wrong kind
+-- The ports that the four mandatory TAP attributes name. PIN_MAP is checked before them. The error
+-- is the first of these attributes that the entity does not have exactly once, or whose value has
+-- the wrong kind.
 unfoldable pub found_taps : Entity → Result FoundTaps Source
 found_taps entity =
     need (sources.Attribute PinMap) (only_value entity PinMap) (λ _.
@@ -67,9 +69,9 @@ abbrev pub within : ℕ → ℕ → Option ℕ → Option ℕ
 within least most None = None
 within least most (Some number) = if nat_le least number && nat_le number most then Some number else None
 
--- the values of the attributes of the two registers, or the first of these attributes that the
--- entity does not have exactly once, whose value has the wrong kind, or whose length is out of
--- range
+-- The values of the attributes of the two registers. The error is the first of these attributes
+-- that the entity does not have exactly once, whose value has the wrong kind, or whose length is
+-- out of range.
 unfoldable pub found_registers : Entity → Result FoundRegisters Source
 found_registers entity =
     need (sources.Attribute InstructionLength)

@@ -27,7 +27,7 @@ breaks_source entity given number =
     if number == 14 then not (conforms entity) else
     if number == 15 then is_none (found_package entity (chosen_package entity given)) else false
 
--- the number of the source with which a search ends, if the search finds no value
+-- the number of the source that is the error of a search, or None if the search finds a value
 abbrev pub reported : {A : Type 0} → Result A Source → Option ℕ
 reported (Ok value) = None
 reported (Err source) = Some (source_number source)

@@ -1,5 +1,5 @@
--- The answer to an entity and a package: the sound device of the entity, or the first rule or
--- string that fails.
+-- The answer to an entity and a package: the device, if all rules hold, or the first rule or string
+-- that fails.
 use Rattle.std.specs.Prelude.{◌≡◌, ℕ, List, Option, Some, None, ◌⊎◌, Result, Ok, Err}
 use Rattle.board_defs.specs.declared.device.RawDevice.{RawDevice}
 use Rattle.bsdl_parser.specs.declared.entity.Entity.{Entity}
@@ -64,7 +64,8 @@ pub record FailsRule (entity : Entity) (given : Option (List ℕ)) (number item 
   pub read : AreStrings entity found strings
   pub broken : first_rule (draft_of entity found strings) ≡ Some (record { rule = number; item = item })
 
--- V1 holds, and the string with number `attribute` is the first that leaves its grammar, at entry `entry`
+-- V1 holds, and the string with number `attribute` is the first that does not fit its grammar;
+-- `entry` is its first entry that does not fit
 pub record FailsText (entity : Entity) (given : Option (List ℕ)) (attribute entry : ℕ) : Type 0 where
   pub found : FoundValues
   pub needed : v1 entity given ≡ Ok found

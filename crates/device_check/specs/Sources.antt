@@ -5,12 +5,12 @@ use Rattle.bsdl_parser.specs.AttributeNumbers.{attribute_number}
 use Rattle.device_check.specs.declared.sources.Source.{Source}
 use Rattle.device_check.specs.declared.sources.Source.TheVariants as sources
 
--- the number by which a fault names the source
+-- the number that a fault has for the source
 abbrev pub source_number : Source → ℕ
 source_number (sources.Attribute attribute) = attribute_number attribute
 source_number sources.PinMapConstant = 15
 
--- the name by which a fault names the string of the source with this number
+-- the name that a fault's message has for the string of the source with this number
 abbrev pub string_name : ℕ → List ℕ
 string_name source =
     if source == attribute_number InstructionOpcode then codes "INSTRUCTION_OPCODE" else

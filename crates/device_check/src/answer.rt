@@ -21,7 +21,8 @@ use device_rules::{Draft, DraftFault, Rule, raw_device};
 use std::alloc::Global;
 
 /// Returns the device of a draft, or a fault: the first of the rules V2 to V14 that the draft
-/// breaks.
+/// breaks. The draft's lists must be shorter than 2^32, and the lengths of its registers must be in
+/// their ranges.
 fn judge(alloc: Global, draft: Draft) -> Result<Device, DeviceFault>
     requires short { HasShortLists draft }
     requires lengths { HasLengths draft }
@@ -61,7 +62,8 @@ fn answer(alloc: Global, entity: &Entity, package: Option<&[u8]>) -> Result<Devi
 }
 
 /// Returns the device that the entity describes in this package. If `package` is None, takes the
-/// default package of the entity's generic.
+/// default package of the entity's generic. All names, texts and lists of the entity must be
+/// shorter than 2^32.
 ///
 /// The rules are checked in this order: V1; the strings of the pin map and of INSTRUCTION_OPCODE,
 /// INSTRUCTION_CAPTURE, IDCODE_REGISTER, COMPLIANCE_PATTERNS and BOUNDARY_REGISTER; V2 to V14. The
@@ -69,8 +71,8 @@ fn answer(alloc: Global, entity: &Entity, package: Option<&[u8]>) -> Result<Devi
 #[tactic(auto, using(crate::proofs::OneAnswer::only_answer))]
 pub fn device(alloc: Global, entity: &Entity, package: Option<&[u8]>) -> Result<Device, DeviceFault>
     requires small { IsSmall entity.now }
-    // The device is the sound device of the entity, or the fault is the fault of the first step
-    // that fails.
+    // On Ok, all rules hold, and the device is made from the values in the entity. Otherwise the
+    // fault is the first rule or string that fails.
     ensures answer { Gives device_told (λ device. device)
         (IsDeviceAnswer entity.now (option_copied «package».entry)) result }
     // There is no other answer.

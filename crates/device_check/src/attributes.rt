@@ -43,7 +43,7 @@ fn value_of(entity: &Entity, attribute: Attribute) -> Option<&AttrValue>
     find_numbered(entity, attribute.number())
 }
 
-/// Returns the value of an attribute that the entity has exactly once.
+/// Returns the attribute's value, if the entity has the attribute exactly once.
 pub(crate) fn only_value(entity: &Entity, attribute: Attribute) -> Option<&AttrValue>
     ensures { option_copied result ≡ only_value entity.now attribute }
 {
@@ -81,14 +81,15 @@ fn text_in(value: Option<&AttrValue>) -> Option<&[u8]>
     }
 }
 
-/// Returns the port that is the value of the attribute, as of a TAP attribute.
+/// Returns the port that is the attribute's value. Returns None if the entity does not have the
+/// attribute, or if the value is not a port. Takes the first value if there are several.
 pub(crate) fn port_of(entity: &Entity, attribute: Attribute) -> Option<&[u8]>
     ensures { option_copied result ≡ port_of_attribute entity.now attribute }
 {
     port_in(value_of(entity, attribute))
 }
 
-/// Returns the string that is the attribute's value.
+/// Like `port_of`, but for a string instead of a port.
 pub(crate) fn text_of(entity: &Entity, attribute: Attribute) -> Option<&[u8]>
     ensures { option_copied result ≡ text_of_attribute entity.now attribute }
 {
@@ -102,7 +103,7 @@ pub(crate) fn only_port(entity: &Entity, attribute: Attribute) -> Option<&[u8]>
     port_in(only_value(entity, attribute))
 }
 
-/// Returns the number that is the value of an attribute that the entity has exactly once.
+/// Returns the number that is the attribute's value, if the entity has the attribute exactly once.
 pub(crate) fn only_number(entity: &Entity, attribute: Attribute) -> Option<u32>
     ensures { result ≡ only_number entity.now attribute }
 {
@@ -116,8 +117,8 @@ pub(crate) fn only_text(entity: &Entity, attribute: Attribute) -> Option<&[u8]>
     text_in(only_value(entity, attribute))
 }
 
-/// Returns the package that the caller gives, or, if the caller gives none, the default of the
-/// entity's generic.
+/// Returns the package that the caller gives. If the caller gives none, returns the default of the
+/// entity's generic, if there is one.
 pub(crate) fn chosen<'a>(entity: &'a Entity, package: Option<&'a [u8]>) -> Option<&'a [u8]>
     ensures { option_copied result ≡ chosen_package entity.now (option_copied «package».entry) }
 {
@@ -182,7 +183,8 @@ fn uses(entity: &Entity, name: &[u8]) -> bool
         .any(|used| used.bytes() == name)
 }
 
-/// Returns the edition of the standard that the text follows.
+/// Returns the edition of the standard that the text follows. This is the 2001 edition if
+/// COMPONENT_CONFORMANCE or a `use` item names STD_1149_1_2001, and otherwise the old edition.
 pub(crate) fn edition(entity: &Entity) -> Edition
     ensures { result ≡ edition entity.now }
 {

@@ -1,4 +1,4 @@
-//! The faults for which an entity describes no device.
+//! The reasons why an entity describes no device.
 ghost use Rattle.std.specs.Prelude.{◌≡◌, alloc_error};
 ghost use Rattle.device_check.specs.declared.fault.DeviceFault.TheVariants.{Memory};
 
@@ -15,9 +15,9 @@ pub enum DeviceFault {
     /// the other rules `device_rules::Broken` says what the item is.
     #[error("rule V{number} item {item}")]
     Rule { number: u32, item: u32 },
-    /// A string that leaves its grammar. `attribute` is the number of its attribute, or 15 for the
-    /// pin map of the package. `entry` is the number, from 1, of the entry at which the string
-    /// leaves the grammar.
+    /// A string that does not fit its grammar. `attribute` is the number of its attribute, or 15
+    /// for the pin map of the package. `entry` is the number of the first entry that does not fit,
+    /// as `bsdl_strings::StringFault` counts it.
     #[error("{} entry {entry}", string_name(*.attribute))]
     Text { attribute: u32, entry: u32 },
     #[error("out of memory")]

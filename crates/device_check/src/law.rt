@@ -11,7 +11,8 @@ ghost use Rattle.device_check.specs.SoundDevice.{IsDeviceAnswer, IsSound};
 
 use device_rules::law::devices_keep_rules;
 
-/// An entity has exactly one answer for each package: its sound device, or its first fault.
+/// An entity has exactly one answer for each package: the device that it describes, or its first
+/// fault.
 pub fn entities_have_one_answer()
     ensures some { (entity : Entity) (given : Option (List ℕ))
         → (answer : Result RawDevice DeviceFault) × IsDeviceAnswer entity given answer }
@@ -20,13 +21,14 @@ pub fn entities_have_one_answer()
         → IsDeviceAnswer entity given other → answer ≡ other }
 {}
 
-/// If rule V1 holds, no source breaks the rule. Otherwise V1 reports the least number of a source that breaks it.
+/// If rule V1 holds, no source breaks the rule. A source is an attribute or the pin map of the
+/// package. If V1 fails, it reports the lowest number of a source that breaks it.
 pub fn least_source_is_reported()
     ensures { (entity : Entity) (given : Option (List ℕ))
         → IsLeast (breaks_source entity given) 16 (reported (v1 entity given)) }
 {}
 
-/// The sound device of an entity keeps the rules of a device.
+/// If no rule and no string of an entity fails, its device keeps the rules of devices.
 pub fn sound_devices_keep_rules()
     ensures { (entity : Entity) (given : Option (List ℕ)) (device : RawDevice)
         → IsSound entity given device → IsDevice device }

@@ -1,4 +1,4 @@
-//! The listing of a device.
+//! Writes the listing of a device.
 ghost use Rattle.std.specs.Prelude.{◌≡◌, ◌==◌, ◌<◌, ◌≤◌, ◌+◌, ℕ, [], ◌∷◌, ◌++◌, length, filter, is_some, codes, decimal, true};
 ghost use Rattle.std.specs.List.{flat_map, list_any, prefix_len};
 ghost use Rattle.board_defs.specs.Limits.{most_bits};
@@ -425,7 +425,7 @@ fn put_entries<K: Sink>(
     }
 }
 
-/// Writes the lines of the entries in a table, in the order of the table's places.
+/// Writes the lines of the entries in a table, from the first place to the last.
 fn put_table<K: Sink>(
     ports: &[Name],
     bits: &[PortBit],
@@ -443,7 +443,7 @@ fn put_table<K: Sink>(
 }
 
 /// Writes the lines of the entries of cells `from`, `from + 1` and so on, one cell for each place
-/// of the table.
+/// of the table. No cell may have more than two entries.
 fn put_block<K: Sink>(
     device: &RawDevice,
     from: u32,
@@ -467,7 +467,8 @@ fn put_block<K: Sink>(
 }
 
 /// Writes the lines of all cells, block by block. Each block takes one walk over all entries,
-/// whatever their order is, so the time does not depend on the order.
+/// whatever their order is, so the time does not depend on the order. No cell may have more than
+/// two entries.
 fn put_blocks<K: Sink>(device: &RawDevice, line: &mut Line, out: &mut K) -> Result<(), PutFault>
     requires few { (num : ℕ) → length (entries_of_cell num device.now.cells) ≤ 2 }
     requires most { device.now.boundary ≤ most_bits }
@@ -517,7 +518,7 @@ fn put_in_order<K: Sink>(
 }
 
 /// Writes the lines of all cells. If the entries are in the order of their cells, as in most texts,
-/// one walk writes them.
+/// one walk writes them. No cell may have more than two entries.
 fn put_cells<K: Sink>(device: &RawDevice, line: &mut Line, out: &mut K) -> Result<(), PutFault>
     requires few { (num : ℕ) → length (entries_of_cell num device.now.cells) ≤ 2 }
     requires most { device.now.boundary ≤ most_bits }
@@ -538,7 +539,7 @@ fn put_cells<K: Sink>(device: &RawDevice, line: &mut Line, out: &mut K) -> Resul
     }
 }
 
-/// Writes the lines of the ports of a device.
+/// Writes the lines of the ports of a device. The device must keep the rules of devices.
 fn put_all_ports<K: Sink>(device: &RawDevice, line: &mut Line, out: &mut K) -> Result<(), PutFault>
     requires { IsDevice device.now }
     ensures { Prints (K.shown out.old) (K.shown out.new) [] []
@@ -555,7 +556,7 @@ fn put_name<K: Sink>(word: &[u8], name: &Name, line: &mut Line, out: &mut K) -> 
     put_line(&[word, name.bytes()], line, out)
 }
 
-/// Writes the listing of the device.
+/// Writes the listing of the device, which must keep the rules of devices.
 fn put_listing<K: Sink>(device: &RawDevice, line: &mut Line, out: &mut K) -> Result<(), PutFault>
     requires { IsDevice device.now }
     ensures { Prints (K.shown out.old) (K.shown out.new) [] [] (device_text device.now) result }
@@ -567,10 +568,11 @@ fn put_listing<K: Sink>(device: &RawDevice, line: &mut Line, out: &mut K) -> Res
     put_cells(device, line, out)
 }
 
-/// Writes the listing of a device: its names, its instructions, its ports with their pins, and the entries of its
-/// boundary register in the order of the cell numbers. Each line is written in one put. A line of more than
-/// `MAX_LINE` bytes is written in pieces of `MAX_LINE` bytes and the rest. Allocates nothing; `line` is a buffer
-/// whose contents afterwards are unspecified. Fails only if the sink fails, after a prefix of the listing.
+/// Writes the listing of a device: its names, its instructions, its ports with their pins, and the
+/// entries of its boundary register in the order of the cell numbers. Writes each line in one call
+/// of `put`. Writes a line of more than `MAX_LINE` bytes in pieces of `MAX_LINE` bytes and the
+/// rest. Allocates nothing; `line` is a buffer whose contents afterwards are unspecified. Fails
+/// only if the sink fails, after a prefix of the listing.
 pub fn write_device<K: Sink>(device: &Device, line: &mut Line, out: &mut K) -> Result<(), PutFault>
     ensures { Puts (K.shown out.old) (K.shown out.new) (device_text device.now) result }
 {

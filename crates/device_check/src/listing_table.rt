@@ -15,7 +15,7 @@ pub enum Entries {
 }
 
 impl Entries {
-    /// Returns these entries followed by another entry.
+    /// Returns these entries followed by another entry. There must be fewer than two entries.
     fn and(self, cell: Cell) -> Entries
         requires { length (entries_in self) < 2 }
         ensures { entries_in result ≡ entries_in self ++ cell ∷ [] }
@@ -29,7 +29,7 @@ impl Entries {
 }
 
 /// Adds an entry to the place of its cell in the table, if the cell is in the block that begins
-/// with cell `from`.
+/// with cell `from`. This place must have fewer than two entries.
 fn add_entry(cell: Cell, from: u32, table: &mut [Entries])
     requires { (k : ℕ) → k < length table.old → cell.num ≡ from + k
         → length (entries_in (slice_index_or table.old k Entries.Nothing)) < 2 }
@@ -59,6 +59,7 @@ fn clear(table: &mut [Entries])
 }
 
 /// Fills a table with the entries of cells `from`, `from + 1` and so on, one cell for each place.
+/// No cell may have more than two entries.
 pub fn fill_entries(cells: &[Cell], from: u32, table: &mut [Entries])
     requires { (num : ℕ) → length (entries_of_cell num cells.now) ≤ 2 }
     ensures entries { map entries_in table.new

@@ -47,7 +47,8 @@ pub struct Needed<'a> {
     pub chosen: NeededPackage<'a>,
 }
 
-/// Returns the ports of the four mandatory TAP attributes. Checks PIN_MAP before them.
+/// Returns the ports of the four mandatory TAP attributes. Checks PIN_MAP before them. The error is
+/// the first of these attributes that is missing, repeated or has a value of the wrong kind.
 #[tactic(auto, unfolding(crate::specs::Needed::found_taps))]
 fn needed_taps(entity: &Entity) -> Result<NeededTaps<'_>, Source>
     ensures { Says taps_view (found_taps entity.now) result }
@@ -85,8 +86,9 @@ fn within(least: u32, most: u32, number: Option<u32>) -> Option<u32>
     }
 }
 
-/// Returns the values of INSTRUCTION_LENGTH, INSTRUCTION_OPCODE, INSTRUCTION_CAPTURE, BOUNDARY_LENGTH and
-/// BOUNDARY_REGISTER.
+/// Returns the values of INSTRUCTION_LENGTH, INSTRUCTION_OPCODE, INSTRUCTION_CAPTURE,
+/// BOUNDARY_LENGTH and BOUNDARY_REGISTER. The error is the first of these attributes that is
+/// missing, repeated or has a wrong value.
 #[tactic(auto, unfolding(crate::specs::Needed::found_registers))]
 fn needed_registers(entity: &Entity) -> Result<NeededRegisters<'_>, Source>
     ensures { Says registers_view (found_registers entity.now) result }
@@ -162,8 +164,8 @@ fn wrong_option(entity: &Entity) -> Option<Attribute>
 }
 
 /// Returns the name and the pin map of a package: the package that the caller gives, or otherwise
-/// the default of the entity's generic. Returns None if there is no package, or if there is not
-/// exactly one constant with the package's name.
+/// the default of the entity's generic. Returns None if there is no package, or unless exactly one
+/// constant has the package's name.
 fn needed_package<'a>(entity: &'a Entity, package: Option<&'a [u8]>) -> Option<NeededPackage<'a>>
     ensures { option_map package_view result
         ≡ found_package entity.now (chosen_package entity.now (option_copied «package».entry)) }

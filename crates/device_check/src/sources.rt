@@ -1,11 +1,10 @@
-//! The attributes that describe a device, and the places in an entity that a fault may name.
+//! The places in an entity that a fault may name, and the names of their strings.
 ghost use Rattle.std.specs.Prelude.{◌≡◌};
 ghost use Rattle.device_check.specs.Sources.{source_number, string_name};
 
 use bsdl_parser::Attribute;
 
-/// A place in an entity that has a value for the device: an attribute, or the constant of the pin
-/// map.
+/// The place of a value in an entity: an attribute, or the constant of the pin map.
 #[derive(Clone, Copy)]
 pub enum Source {
     Attribute(Attribute),
@@ -14,7 +13,8 @@ pub enum Source {
 }
 
 impl Source {
-    /// Returns the number by which a fault names the source: the attribute's number, or 15 for the pin map.
+    /// Returns the number that a fault has for the source: the attribute's number, or 15 for the
+    /// pin map.
     pub(crate) fn number(self) -> u32
         ensures { result ≡ source_number self }
     {
@@ -25,8 +25,9 @@ impl Source {
     }
 }
 
-/// Returns the name by which a fault names the string of the source with this number: the name of the attribute, or
-/// PIN_MAP_STRING for the pin map. A number of no source with a string is taken for that of the pin map.
+/// Returns the name that a fault's message has for the string of the source with this number. This
+/// is the attribute's name for INSTRUCTION_OPCODE, INSTRUCTION_CAPTURE, BOUNDARY_REGISTER,
+/// IDCODE_REGISTER and COMPLIANCE_PATTERNS, and PIN_MAP_STRING for every other number.
 pub fn string_name(source: u32) -> &'static str
     ensures { result.now ≡ string_name source }
 {

@@ -29,7 +29,7 @@ pub struct Strings {
     pub entries: Items<Entry>,
 }
 
-/// Returns the fault of the device for a fault in the string of this source.
+/// Returns the fault of the device if `fault` is the fault of the string in this source.
 fn fault(source: Source, fault: StringFault) -> DeviceFault
     ensures { result ≡ source_fault source fault }
 {
@@ -121,8 +121,9 @@ fn read_boundary(alloc: Global, needed: &Needed) -> Result<Items<Entry>, DeviceF
     }
 }
 
-/// Returns the values of all strings, or the fault of the first string that leaves its grammar.
-/// Reads the strings in the order of the fields of `Strings`.
+/// Returns the values of all strings, or the fault of the first string that does not fit its
+/// grammar. Reads the strings in the order of the fields of `Strings`. The strings must be shorter
+/// than 2^32 bytes.
 pub(crate) fn read_strings(
     alloc: Global,
     entity: &Entity,

@@ -1,4 +1,5 @@
--- What the functions return that check V1, read the strings of an entity and check the other rules.
+-- The results of the functions that check V1, read the strings of an entity, and check the other
+-- rules.
 use Rattle.std.specs.Prelude.{◌≡◌, ℕ, ◌<◌, ◌^◌, length, Some, None, Result, Ok, Err}
 use Rattle.board_defs.specs.declared.device.RawDevice.{RawDevice}
 use Rattle.bsdl_parser.specs.declared.entity.Entity.{Entity}
@@ -19,11 +20,12 @@ use Rattle.device_check.specs.Sources.{source_number}
 use Rattle.device_check.specs.Needed.{FoundTaps, FoundRegisters, FoundPackage, FoundValues}
 use Rattle.device_check.specs.DeviceStrings.{LeavesFirst, strings_in_order, AreStrings}
 
--- the definition's record of the TAP ports that the function returns
+-- the TAP ports that the function returns, in the form of the definition
 abbrev pub taps_view : NeededTaps → FoundTaps
 taps_view taps = record { scan_in = taps.scan_in.now; scan_out = taps.scan_out.now; mode = taps.mode.now; clock = taps.clock.now }
 
--- the definition's record of the values of the two registers' attributes that the function returns
+-- the values of the two registers' attributes that the function returns, in the form of the
+-- definition
 abbrev pub registers_view : NeededRegisters → FoundRegisters
 registers_view registers = record {
   instruction_length = registers.instruction_length;
@@ -36,7 +38,7 @@ registers_view registers = record {
 abbrev pub package_view : NeededPackage → FoundPackage
 package_view chosen = record { name = chosen.name.now; pin_map = chosen.pin_map.now }
 
--- the definition's record of all values that the function returns
+-- all values that the function returns, in the form of the definition
 abbrev pub needed_view : Needed → FoundValues
 needed_view needed =
     record {
@@ -58,18 +60,19 @@ pub record HasShortStrings (found : FoundValues) : Type 0 where
   pub capture : length found.registers.capture < 2 ^ 32
   pub boundary : length found.registers.boundary < 2 ^ 32
 
--- either the fault names an attribute and an entry of which `P` is true, or memory ran out
+-- the fault is the fault of a string, and `P` holds for its attribute and its entry; or memory ran
+-- out
 abbrev pub NamesPlace : (ℕ → ℕ → Type 0) → DeviceFault → Type 0
 NamesPlace P (faults.Rule number item) = ⊥
 NamesPlace P (faults.Text attribute entry) = P attribute entry
 NamesPlace P (faults.Memory error) = Unit {0}
 
--- the fault of the device for a fault in the string of this source
+-- the fault of the device if the string in this source has this fault
 abbrev pub source_fault : Source → StringFault → DeviceFault
 source_fault source (At entry) = faults.Text (source_number source) entry
 source_fault source (Memory error) = faults.Memory error
 
--- the result is the values of all strings, or the fault of the first string that leaves its
+-- the result is the values of all strings, or the fault of the first string that does not fit its
 -- grammar, or memory ran out
 abbrev pub Gathers : Entity → FoundValues → Result Strings DeviceFault → Type 0
 Gathers entity found (Ok strings) = AreStrings entity found strings
