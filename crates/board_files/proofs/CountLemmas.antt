@@ -81,8 +81,7 @@ pieces_within p (x ∷ xs) =
     wider (1 + length xs) (length (x ∷ xs)) (slice_split p (x ∷ xs)) (omega arith)
     (within_by p x xs (p x) (pieces_within p xs))
 
--- if the later words give as many pins as there are words, the same is true of this word and the
--- later words
+-- one step of the induction over the words: each word gives one pin
 more_pins : (n : ℕ) (word : Word) (words : List Word) (pin : Result PinWord LineFault)
     (rest : Result (List PinWord) LineFault) (pins : List PinWord)
     → (pin >>= (λ p. rest >>= (λ ps. Ok (p ∷ ps)))) ≡ Ok pins
@@ -124,7 +123,7 @@ net_pins n (name ∷ words) line is = by_test (is_word name) is
     by_test true found = omega (arith, line_pins n name words (read_pins n words) line found (count_pins n words))
     by_test false found = absurd cc
 
--- a net line has exactly two words more than pins
+-- besides its pins, a net line has two words: `NET` and the name
 statement_pins : (n : ℕ) (words : List Word) (line : NetLine) → read_net_line n words ≡ Ok line → length line.pins + 2 ≡ length words
 statement_pins n [] line is = absurd cc
 statement_pins n (keyword ∷ words) line is = by_test (bytes_eq keyword (codes "NET")) is
@@ -193,8 +192,8 @@ counts_from n number (line ∷ lines) all values is =
     (counts_more n number line (words_of line) (lines_from read_net_line (number + 1) lines)
     (filled lines) all.0 refl (counts_from n (number + 1) lines all.1) values is)
 
--- a net file has at most as many lines as the text has bytes, and each line has at most as many
--- words
+-- the number of lines, and the number of words on each line, are at most the number of bytes of the
+-- text
 pub net_counts : (text : List ℕ) (values : List NetLine) → net_lines text ≡ Ok values → HasCounts (length text) (length text) values
 net_counts text values is =
     let counts = counts_from (length text) 1 (slice_split is_newline text) (pieces_within is_newline text) values is in
@@ -207,7 +206,6 @@ few_pins n few (line ∷ lines) pins =
     let narrow : length line.pins + 2 ≤ n = pins.0 in
     (omega (arith, few, narrow), few_pins n few lines pins.1)
 
--- if a text has fewer than 2^32 bytes, its lines are the lines of a net file
 pub is_net_file : (text : List ℕ) (values : List NetLine) → length text < 2 ^ 32 → net_lines text ≡ Ok values → IsNetFile values
 is_net_file text values few is =
     let counts = net_counts text values is in

@@ -78,7 +78,7 @@ link_length n (Some (part, first, second)) =
     kept (is_part part && is_symbol_word first && is_symbol_word second)
     (Link part (upper_word first) (upper_word second)) (WordFault n) tt
 
--- the reading `a` if the name of the statement is `word`, and the reading `b` otherwise
+-- the reading `a` if `name` is `word`, and the reading `b` otherwise
 abbrev choice : Word → List ℕ → Read → Read → Read
 choice name word a b = if bytes_eq name word then a else b
 
@@ -127,7 +127,6 @@ lines_lengths : (n : ℕ) (lines : List (List ℕ)) → IfOk (lines_from chain_l
 lines_lengths n [] = tt
 lines_lengths n (line ∷ lines) = then_lengths n (words_of line) (lines_from chain_line (n + 1) lines) (lines_lengths (n + 1) lines)
 
--- the length on each BYPASS line of a chain file is in range
 pub lengths_of_text : (text : List ℕ) (lines : List ChainLine)
     → lines_of_text chain_line text ≡ Ok lines
     → AllByRecursion (λ l. HasBypassLength l.statement) lines

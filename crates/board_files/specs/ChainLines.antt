@@ -19,7 +19,7 @@ Read = Result ChainStatement LineFault
 abbrev pub package_of : Word → Option Word
 package_of word = if bytes_eq word (codes "-") then None else Some (upper_word word)
 
--- the number that the digits of `n` followed by these digits spell, or None if one of these bytes
+-- the number that the digits of `n`, followed by these digits, spell, or None if one of these bytes
 -- is not a digit
 abbrev pub decimal_from : ℕ → Word → Option ℕ
 decimal_from n [] = Some n
@@ -29,7 +29,7 @@ abbrev pub as_length : Option ℕ → Option ℕ
 as_length None = None
 as_length (Some n) = if nat_le 2 n && nat_le n most_instruction_bits then Some n else None
 
--- the number that 1 to 3 decimal digits spell, if it is from 2 to 255
+-- the number that a word of 1 to 3 decimal digits spells, if it is from 2 to 255
 abbrev pub length_in_bypass : Word → Option ℕ
 length_in_bypass word = if nat_le (length word) 3 then as_length (decimal_from 0 word) else None
 
@@ -72,7 +72,7 @@ link_of n (Some (part, first, second)) =
     if is_part part && is_symbol_word first && is_symbol_word second
     then Ok (Link part (upper_word first) (upper_word second)) else Err (WordFault n)
 
--- the statement on line `n` with this name, which these words follow, or the fault of the line
+-- the statement that `name` and the following `words` make on line `n`, or the fault of the line
 unfoldable pub chain_statement : ℕ → Word → List Word → Read
 chain_statement n name words =
     if bytes_eq name (codes "DEVICE") then device_statement n (three_of words)
@@ -91,7 +91,7 @@ chain_line n (name ∷ words) = chain_statement n name words >>= (λ said. Ok (r
 abbrev pub chain_lines : List ℕ → Result (List ChainLine) LineFault
 chain_lines text = lines_of_text chain_line text
 
--- if the statement is BYPASS, its length is from 2 to 255 bits
+-- the length on a BYPASS line is from 2 to 255 bits; other statements have no length
 abbrev pub HasBypassLength : ChainStatement → Type 0
 HasBypassLength (Bypass part bits) = IsInstructionLength bits
 HasBypassLength (Device part entity pack) = Unit {0}

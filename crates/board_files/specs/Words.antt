@@ -1,4 +1,4 @@
--- The rules on words in the files of a board.
+-- Checks of the words in a board's files.
 use Rattle.std.specs.Prelude.{ℕ, ◌==◌, Bool, not, ◌&&◌, ◌||◌, List, [], ◌∷◌, Option, Some, None, map}
 use Rattle.std.specs.List.{list_all, list_any}
 use Rattle.std.specs.Char.{to_ascii_uppercase, is_ascii_alphanumeric}
@@ -7,14 +7,14 @@ use Rattle.text_lines.specs.Words.{Word, is_word}
 abbrev pub is_dot : ℕ → Bool
 is_dot b = b == 46
 
--- the word may be the name of a part: it is an allowed word without `.`
+-- the word may be the name of a part: 1 to 255 visible ASCII bytes without `.`
 abbrev pub is_part : Word → Bool
 is_part word = is_word word && not (list_any is_dot word)
 
 abbrev pub is_symbol_byte : ℕ → Bool
 is_symbol_byte b = is_ascii_alphanumeric b || (b == 95)
 
--- the word is an allowed word of letters, digits and `_`
+-- the word has 1 to 255 bytes, each a letter, a digit or `_`
 abbrev pub is_symbol_word : Word → Bool
 is_symbol_word word = is_word word && list_all is_symbol_byte word
 

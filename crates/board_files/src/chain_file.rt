@@ -16,8 +16,8 @@ use text_lines::{first_line, is_word, words};
 /// A statement of a chain file. Entity, package and pin names are in upper case.
 #[derive(Drop)]
 pub enum ChainStatement {
-    /// A part with a description. If the package is None, the part is in the default package of its
-    /// description.
+    /// A part that a BSDL entity describes. If the package is None, the part is in the default
+    /// package of the entity.
     Device {
         part: Name,
         entity: Name,
@@ -76,7 +76,8 @@ impl Model for ChainFile {
 }
 
 impl ChainFile {
-    /// Returns the file with these lines, which must be the lines of a chain file.
+    /// Returns the file with these lines. There must be fewer than 2^32 lines, and the length on
+    /// each BYPASS line must be from 2 to 255 bits.
     pub fn of(lines: Vec<ChainLine>) -> ChainFile
         requires { IsChainFile lines.items }
         ensures { result ≡ lines.items }
@@ -93,9 +94,9 @@ impl ChainFile {
     }
 }
 
-/// Reads a chain file, which may have any bytes. Returns its lines, or the fault of the first
-/// faulty line. If several faults apply to this line, returns the first of `Statement`, `Word` and
-/// `Number` that applies.
+/// Reads a chain file from fewer than 2^32 bytes, which may have any values. Returns its lines, or
+/// the fault of the first faulty line. If several faults apply to this line, returns the first of
+/// `Statement`, `Word` and `Number` that applies. There are at most as many lines as bytes.
 pub fn chain(alloc: Global, bytes: &[u8]) -> Result<ChainFile, LineFault>
     requires { length bytes.now < 2 ^ 32 }
     ensures read { ReadsLines (λ file. file) result (chain_lines bytes.now) }
@@ -200,8 +201,8 @@ fn device(
     }
 }
 
-/// Returns the number that at most three digits spell, or None if a byte is not a digit. An empty
-/// word gives 0.
+/// Returns the number that the decimal digits of `word` spell, or None if a byte is not a digit.
+/// The word must have at most three bytes. An empty word gives 0.
 fn decimal(word: &[u8]) -> Option<u32>
     requires { length word.now ≤ 3 }
     ensures { result ≡ decimal_from 0 word.now }

@@ -1,4 +1,5 @@
-//! The law about the lengths in a chain file. The law is the contract of a function that does nothing.
+//! A property of every chain file: the lengths on its BYPASS lines are in range. The property is
+//! stated as the contract of a function that does nothing.
 ghost use Rattle.std.specs.Prelude.{◌≡◌, ℕ, List};
 ghost use Rattle.std.specs.List.{AllByRecursion};
 ghost use Rattle.board_files.specs.declared.chain_file.ChainLine.{ChainLine};

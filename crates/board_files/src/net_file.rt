@@ -48,7 +48,8 @@ impl Model for NetFile {
 }
 
 impl NetFile {
-    /// Returns the file with these lines, which must be the lines of a net file.
+    /// Returns the file with these lines. There must be fewer than 2^32 lines, and each line must
+    /// have fewer than 2^32 words.
     pub fn of(lines: Vec<NetLine>) -> NetFile
         requires { IsNetFile lines.items }
         ensures { result ≡ lines.items }
@@ -77,8 +78,9 @@ pub fn line_names<'a>(alloc: Global, lines: &'a [NetLine]) -> Result<Vec<&'a [u8
     Ok(names)
 }
 
-/// Reads a net file. Returns its lines, or the fault of the first faulty line. There are at most as
-/// many lines as the text has bytes, and a line has at most as many words.
+/// Reads a net file from fewer than 2^32 bytes, which may have any values. Returns its lines, or
+/// the fault of the first faulty line. The number of lines is at most the number of bytes, and so
+/// is the number of words on each line.
 pub fn nets(alloc: Global, bytes: &[u8]) -> Result<NetFile, LineFault>
     requires { length bytes.now < 2 ^ 32 }
     ensures read { ReadsLines (λ file. file) result (net_lines bytes.now) }

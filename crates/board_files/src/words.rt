@@ -1,4 +1,4 @@
-// The rules on words in the files of a board.
+// Checks of the words in a board's files.
 ghost use Rattle.std.specs.Prelude.{◌≡◌, map, option_map, option_copied};
 ghost use Rattle.std.specs.List.{list_all, list_any};
 ghost use Rattle.board_files.specs.Words.{is_part, is_symbol_word, is_symbol_byte, is_dot, one_of, two_of, three_of};
@@ -11,7 +11,7 @@ fn has_dot(word: &[u8]) -> bool
     word.iter().any(|b| *b == b'.')
 }
 
-/// Returns whether the word may be the name of a part: an allowed word without `.`.
+/// Returns whether the word may be the name of a part: 1 to 255 visible ASCII bytes without `.`.
 pub fn is_part(word: &[u8]) -> bool
     ensures { result ≡ is_part word.now }
 {
@@ -30,7 +30,7 @@ fn has_symbol_bytes(word: &[u8]) -> bool
     word.iter().all(|b| is_symbol_byte(*b))
 }
 
-/// Returns whether the word is an allowed word of letters, digits and `_`.
+/// Returns whether the word has 1 to 255 bytes, each a letter, a digit or `_`.
 pub fn is_symbol(word: &[u8]) -> bool
     ensures { result ≡ is_symbol_word word.now }
 {

@@ -7,7 +7,7 @@ use Rattle.board_files.proofs.LineLemmas.{front}
 use Rattle.text_lines.proofs.LineLemmas.{text_left}
 use Rattle.board_files.proofs.net_file.read_lines.Given as goal
 
--- the lines so far, followed by the lines of the remaining text, are all lines
+-- the lines so far, followed by the lines of the remaining text, are all lines of the file
 abbrev pub invariant-loop-rest : goal.invariant-loop-rest
 invariant-loop-rest l = record {
   read : lines_of_text read_net_line l.bytes ≡ front l.lines.items (lines_from read_net_line l.number (lines_of (option_copied l.rest)));
