@@ -1,4 +1,4 @@
--- Lemmas about lists of which a relation holds for each item and every later item.
+-- Lemmas about lists in which a relation holds between each item and every later item.
 use Rattle.std.proofs.Common.{◌≡◌, ℕ, zero, suc, ◌<◌, Bool, true, false, cond, ◌||◌, List, [], ◌∷◌, ◌++◌, map, get_or, Some, None, refl, sym, ap, subst, ◌∙◌, arith, ◌⊎◌, inl, inr}
 use Rattle.std.specs.Prelude.{slice_get, filter, AllPairs}
 use Rattle.std.specs.List.{list_any, AllByRecursion}
@@ -10,7 +10,7 @@ use Rattle.std.proofs.lemmas.List.Kept.{AllPairs-cons}
 use Rattle.first_places.specs.Places.{once_from, once, first_repeated}
 use Rattle.first_places.proofs.OnceLemmas.{unrepeated}
 
--- R holds of each item and every later item
+-- R holds between each item and every later item
 abbrev pub Apart : {X : Type 0} → (X → X → Type 0) → List X → Type 0
 Apart R [] = Unit {0}
 Apart R (x ∷ xs) = AllByRecursion (R x) xs × Apart R xs
@@ -26,8 +26,7 @@ pairs_at {X} R xs h i j x y less ei ej =
     let Q : X → Type 0 = λ v. R x v in
     subst Q (get_or_from_slice_get xs j y x ej) (subst P (get_or_from_slice_get xs i x x ei) (h i j x less (slice_get_within xs j y ej)))
 
--- if R holds of each item and every later item, but of `x` and `y` in neither order, the places of
--- `x` and `y` are equal
+-- two items between which R holds in neither order are the same item of the list
 pub one_place : {X : Type 0} (R : X → X → Type 0) (xs : List X) → AllPairs R xs
     → (i j : ℕ) (x y : X) → slice_get xs i ≡ Some x → slice_get xs j ≡ Some y → (R x y → ⊥)
     → (R y x → ⊥) → i ≡ j
@@ -54,8 +53,6 @@ pub apart_map : {X Y : Type 0} (f : X → Y) (R : Y → Y → Type 0) (xs : List
 apart_map f R [] h = h
 apart_map f R (x ∷ xs) h = (each_map f (R (f x)) xs h.0, apart_map f R xs h.1)
 
--- if P holds of each item of the filtered list, P holds of each item of the whole list that passes
--- the test
 each_passing : {X : Type 0} (p : X → Bool) (P : X → Type 0) (xs : List X)
     → AllByRecursion P (filter p xs) → AllByRecursion (λ x. p x ≡ true → P x) xs
 each_passing p P [] h = h
@@ -137,18 +134,16 @@ once_from_apart {X} eq seen (x ∷ items) =
     by_test rest first true = rest
     by_test rest first false = (first, rest)
 
--- the items that `once` keeps differ from each other
 pub once_apart : {X : Type 0} (eq : X → X → Bool) (items : List X) → Apart (λ a b. eq a b ≡ false) (once eq items)
 once_apart eq items = once_from_apart eq [] items
 
--- if no item is repeated, the items differ from each other
 pub unrepeated_apart : {X : Type 0} (eq : X → X → Bool) (items : List X)
     → first_repeated eq items ≡ None → Apart (λ a b. eq a b ≡ false) items
 unrepeated_apart {X} eq items e =
     let P : List X → Type 0 = λ v. Apart (λ a b. eq a b ≡ false) v in
     subst P (unrepeated eq eq (λ a b h. h) items e) (once_apart eq items)
 
--- item `x` is at this place of the list and passes the test
+-- item `x` is in the list and passes the test `p`
 pub record Passing {X : Type 0} (p : X → Bool) (xs : List X) (x : X) : Type 0 where
   pub place : ℕ
   pub stands : slice_get xs place ≡ Some x
@@ -168,7 +163,6 @@ passing {X} p (y ∷ ys) i x e = by_test (passing p ys) (p y) refl i e
     by_test rest true t (suc n) k = later (rest n x k)
     by_test rest false t n k = later (rest n x k)
 
--- item `i` of a mapped list is the value of `f` for item `i` of the list
 pub mapped : {X Y : Type 0} (f : X → Y) (xs : List X) (i : ℕ) (y : Y)
     → slice_get (map f xs) i ≡ Some y → (x : X) × (slice_get xs i ≡ Some x) × (f x ≡ y)
 mapped f [] i y e = cc e

@@ -14,8 +14,7 @@ cons_to : {A : Type 0} (o : Option A) (xs : List A) → cons_option o xs ≡ opt
 cons_to None xs = refl
 cons_to (Some x) xs = refl
 
--- if the parts so far, followed by the parts of the lines from line `i` on, are all parts, the same
--- is true from line `i + 1` on after the part of line `i`, if it has one, is appended
+-- one step of the loop: `new` is `parts` with the part of line `i`, if the line has one, appended
 pub parts_step : (lines : List ChainLine) (i : ℕ) (line : ChainLine) (devices rest : List RawDevice)
     (o : Option Part) (parts new all : List Part) → i < length lines → get_or lines i line ≡ line →
     o ≡ part_of_line line.statement devices → rest ≡ devices_after line.statement devices

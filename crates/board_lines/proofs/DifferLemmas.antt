@@ -1,5 +1,5 @@
--- Lemmas about the words of a net file, which a loop collects line by line, and about words that
--- name different pins.
+-- Lemmas about a loop that collects the words of a net file line by line, and about words that name
+-- different pins.
 use Rattle.std.proofs.Common.{◌≡◌, ℕ, zero, suc, ◌+◌, ◌<◌, ◌==◌, Bool, true, List, [], ◌∷◌, ◌++◌, length, map, drop, get_or, append_assoc, arith, Option, Some, None, refl, sym, ap, ◌∙◌, Bor}
 use Rattle.std.specs.Prelude.{is_none, slice_get, unwrap_or}
 use Rattle.std.proofs.lemmas.List.{drop_more}
@@ -19,8 +19,7 @@ number_there f [] i x within read = absurd (omega (arith, within))
 number_there f (y ∷ ys) zero x within read = ap f read
 number_there f (y ∷ ys) (suc i) x within read = number_there f ys i x (omega (arith, within)) read
 
--- if the words so far, followed by the words of the lines from line `i` on, are all words, the same
--- is true from line `i + 1` on after the words of line `i` are appended
+-- one step of the loop: `new` is `done` with the words of line `i` appended
 pub words_step : (names : List (List ℕ)) (lines : List NetLine) (i : ℕ) (line : NetLine)
     (numbers : List ℕ) (done new all : List NetWord) → i < length lines → get_or lines i line ≡ line
     →
@@ -42,7 +41,7 @@ words_step names lines i line numbers done new all within read told pushed same 
     (words_of_nets names (drop (i + 1) lines)))
     ∙ ap (λ (v : List NetWord). v ++ words_of_nets names (drop (i + 1) lines)) (sym pushed)
 
--- if no word names the pin of an earlier word, every word counts
+-- if no word names the pin of an earlier word, `once` leaves out no word
 pub all_stand : (words : List NetWord) → first_repeated have_same_pin words ≡ None → once same_place words ≡ words
 all_stand words e =
     unrepeated have_same_pin same_place

@@ -1,4 +1,4 @@
--- If a definition gives a fault, `board_told` gives the same fault, or None if memory ran out.
+-- Lemmas about the operators that combine faults, and about limits.
 use Rattle.std.proofs.Common.{◌≡◌, ℕ, ◌≤◌, Bool, true, false, cond, Option, Some, None, Result, Err, refl, arith, nat_lt}
 use Rattle.std.specs.Prelude.{IfSome}
 use Rattle.board_lines.specs.declared.fault.BoardFault.{BoardFault}

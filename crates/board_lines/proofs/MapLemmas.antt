@@ -1,5 +1,5 @@
--- Lemmas that compare a search in a list with the same search in the list of the values of its
--- items.
+-- Searching a list by the images of its items under a function gives the same result as searching
+-- the list of the images.
 use Rattle.std.proofs.Common.{◌≡◌, Bool, true, false, cond, List, [], ◌∷◌, ◌++◌, map, Some, refl, sym, ap, ◌∙◌}
 use Rattle.std.specs.Prelude.{find, filter, option_map}
 use Rattle.std.specs.List.{list_any}

@@ -1,4 +1,4 @@
--- Lemmas about names that a loop collects line by line, and about borrowed names.
+-- Lemmas about a loop that collects names line by line, and about borrowed names.
 use Rattle.std.proofs.Common.{◌≡◌, ℕ, ◌+◌, ◌<◌, Bool, cond, List, [], ◌∷◌, ◌++◌, length, map, drop, get_or, Option, Some, None, refl, sym, ap, ◌∙◌, append_assoc, Bor}
 use Rattle.std.proofs.lemmas.List.{map-append, drop_more}
 use Rattle.std.specs.List.{list_any}
@@ -20,9 +20,8 @@ repeat-map f eq seen n (x ∷ xs) =
     (repeat-map f eq (seen ++ x ∷ []) (n + 1) xs
     ∙ ap (λ s. repeat_from eq s (n + 1) (map f xs)) (map-append f seen (x ∷ [])))
 
--- if the names so far, followed by the names of the lines from line `i` on, are all names, then the
--- names so far, followed by the name of line `i`, if it has one, and by the names of the later
--- lines, are all names
+-- one step of the loop: the names that are left begin with the name of line `i`, if the line has
+-- one
 pub named_step : (naming : Naming) (lines : List ChainLine) (i : ℕ) (line : ChainLine)
     (done all : List Named) → i < length lines → get_or lines i line ≡ line →
     all ≡ done ++ named naming (drop i lines)
@@ -45,14 +44,11 @@ pub named_none : (line : ℕ) (o : Option (List ℕ)) (done rest all : List Name
     → all ≡ done ++ with_name line o rest → all ≡ done ++ rest
 named_none line o done rest all e same = same ∙ ap (λ o. done ++ with_name line o rest) e
 
--- the search for the first repeated name finds the same place among borrowed names as among the
--- names themselves
 pub first_repeat_lent : (names : List (Bor (List ℕ)))
     → first_repeat (λ a b. same_word a.now b.now) names
     ≡ first_repeat same_word (map (λ n. n.now) names)
 first_repeat_lent names = repeat-map (λ n. n.now) same_word [] 0 names
 
--- if `f` gives for each borrowed name the value of `g` for the name itself, mapping `f` and mapping `g` give the same list
 pub map_lent : {A : Type 0} (f : Bor (List ℕ) → A) (g : List ℕ → A)
     → ((n : Bor (List ℕ)) → f n ≡ g n.now) → (names : List (Bor (List ℕ)))
     → map f names ≡ map g (map (λ n. n.now) names)

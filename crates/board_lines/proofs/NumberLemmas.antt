@@ -1,4 +1,4 @@
--- The numbers that the selection of a chain returns are numbers of entities.
+-- Each number that the selection of a chain returns is the index of an entity.
 use Rattle.std.proofs.Common.{◌≡◌, ℕ, ◌+◌, ◌<◌, Bool, true, false, cond, List, [], ◌∷◌, length, map, Option, Some, None, Result, Ok, Err, Vec, Global, refl, ap, sym, ◌∙◌, subst, arith, inl, inr}
 use Rattle.std.specs.Prelude.{IfOk, option_map, option_and_then, position, is_none, unwrap_or}
 use Rattle.std.specs.List.{All, AllByRecursion, position_from}
@@ -19,7 +19,6 @@ use Rattle.board_files.specs.Names.{same_word}
 use Rattle.board_lines.specs.Names.{Named, named, names_of}
 use Rattle.board_lines.specs.Selection.{spot_at, selection, answer, first_fault, no_chain, part_twice, no_entity, entity_twice, chain_limit, entity_places, entity_names}
 
--- if `unless` returns a value, there is no fault
 unless_none : {V : Type 0} (f : Option BoardFault) (v w : V) → unless f v ≡ Ok w → f ≡ None
 unless_none None v w e = refl
 unless_none (Some fault) v w e = absurd cc
@@ -36,7 +35,6 @@ then_second : (a b : Option BoardFault) → (a then b) ≡ None → b ≡ None
 then_second None b e = e
 then_second (Some fault) b e = absurd cc
 
--- each place within a list of names has a spot: the line of the name at this place
 spot_there : (list : List Named) (place : ℕ) → place < length list → (spot : Spot) × (spot_at list place ≡ Some spot)
 spot_there list place within =
     elim (slice_get_cases list place).1 [
@@ -44,8 +42,8 @@ spot_there list place within =
       | inr (past, _) ↦ absurd (omega (arith, past, within))
     ]
 
--- if a place is within the list, a rule that reports the line at this place finds a fault; so if
--- the rule finds no fault, there is no place
+-- `fault` reports the line at `place`, which is within the list; if there is no fault, `place` is
+-- None
 found_none : (fault : Spot → BoardFault) (list : List Named) (place : Option ℕ)
     → ((k : ℕ) → place ≡ Some k → k < length list)
     → option_map fault (option_and_then (spot_at list) place) ≡ None → place ≡ None
@@ -63,7 +61,6 @@ within_more n k x xs rest more true found =
     omega (arith, same)
 within_more n k x xs rest more false found = omega (arith, more found)
 
--- a place that a search returns, numbered from `n` on, is within the list
 place_within : (n : ℕ) (entities : List (List ℕ)) (name : List ℕ) (k : ℕ)
     → position_from (λ e. same_word e name) n entities ≡ Some k → k < n + length entities
 place_within n [] name k e = absurd cc
@@ -77,7 +74,7 @@ unwrapped_within : (entities : List (List ℕ)) (name : List ℕ) (place : Optio
 unwrapped_within entities name None is e = absurd cc
 unwrapped_within entities name (Some k) is e = omega (arith, place_within 0 entities name k is)
 
--- no item of the list of places is missing
+-- no item of the list is None
 abbrev none_missing : List (Option ℕ) → Type 0
 none_missing places = AllByRecursion (λ place. is_none place ≡ false) places
 

@@ -1,4 +1,4 @@
--- Lemmas about the place of a pin, which is found by the name of the pin's part and then by the
+-- Lemmas about the look-up of a pin's place, first by the name of the pin's part and then by the
 -- pin's own name.
 use Rattle.std.proofs.Common.{◌≡◌, ◌≢◌, ℕ, suc, ◌+◌, ◌-◌, ◌<◌, ◌≤◌, Bool, true, false, cond, ◌&&◌, List, [], ◌∷◌, ◌++◌, length, map, drop, take, get_or, Option, Some, None, refl, sym, ap, subst, ◌∙◌, arith}
 use Rattle.std.specs.Prelude.{find, slice_get, option_map, option_and_then, AllPairs}
@@ -24,8 +24,6 @@ use Rattle.board_lines.specs.PinRows.{ArePinRows, bit_of_pin, has_pin_named, pin
 abbrev bit_in_part : ℕ → Option ℕ → Option PinAt
 bit_in_part part bit = option_map (λ b. record { part = part; bit = b }) bit
 
--- a look-up in two joined lists returns the value in the first list, or otherwise the value in the
--- second
 value_append : {K V : Type 0} (eq : K → K → Bool) (xs ys : List (K × V)) (q : K)
     → first_value eq (xs ++ ys) q ≡ option_or (first_value eq xs q) (first_value eq ys q)
 value_append {K} {V} eq xs ys q =
@@ -38,7 +36,7 @@ value_append {K} {V} eq xs ys q =
     by_case None = refl
     by_case (Some i) = refl
 
--- if a part has another name than the pin's part, the part's port bits give no place of the pin
+-- a part that does not have the name of the pin's part gives no place of the pin
 bits_other : (part : ℕ) (name : List ℕ) (n : ℕ) (bits : List PortBit) (pin : Pin)
     → same_word name pin.0 ≡ false → first_value same_pin (bit_places part name n bits) pin ≡ None
 bits_other part name n [] pin other = refl
@@ -113,8 +111,6 @@ parts_other n (part ∷ parts) pin others =
     ∙ ap (λ o. option_or o (first_value same_pin (places_from (n + 1) parts) pin)) (part_other n part.name part.kind pin others.0)
     ∙ parts_other (n + 1) parts pin others.1
 
--- if R holds of each item of a list and every later item, the same is true of the list without its
--- first item
 rest_differ : {X : Type 0} (R : X → X → Type 0) (x : X) (xs : List X) → AllPairs R (x ∷ xs) → AllPairs R xs
 rest_differ R x xs h = λ i j d less within. h (suc i) (suc j) d (omega (arith, less)) (omega (arith, within))
 
@@ -199,7 +195,6 @@ found_some n (part ∷ parts) pin k differ found =
               ∙ r.place;
         }
 
--- if the rows have the pins of the parts, the row of part `k` has the pins of part `k`
 row_of_part : (rows : List (List (Option (List ℕ)))) (numbers : List ℕ) (parts : List Part) (k : ℕ)
     → ArePinRows rows numbers parts
     → row_at rows numbers k ≡ option_map (λ part. pins_of_part part.kind) (slice_get parts k)
@@ -241,8 +236,8 @@ place_by_rows rows numbers parts pin are differ = by_place (first_place same_wor
         ∙ ap (λ i. bit_in_part k (option_and_then (λ part. bit_of_pin (pins_of_part part.kind) pin.1) (slice_get parts i))) at
         ∙ sym r.place
 
--- if the rows have the pins of the parts `done`, and row `number` has the pins of one more part,
--- the rows have the pins of all these parts after the part and the number are appended
+-- one step of the loop over the parts: the old rows keep their numbers, and row `number` has the
+-- pins of the next part
 pub rows_more : (rows longer : List (List (Option (List ℕ)))) (numbers : List ℕ) (done : List Part)
     (number : ℕ) (part : Part) → ArePinRows rows numbers done →
     ((k : ℕ) (row : List (Option (List ℕ))) → slice_get rows k ≡ Some row
@@ -274,8 +269,8 @@ rows_step rows longer numbers pushed parts i number part within read are kept ne
     ∙ ap (λ p. take i parts ++ p ∷ []) (sym read) in
     subst P (sym is) (subst Q (sym cut) (rows_more rows longer numbers (take i parts) number part are kept new))
 
--- if the map has, for each pin, the first of the bits from bit `i` on with this pin, the map has
--- the first of the bits from bit `i - 1` on after bit `i - 1` is put into the map
+-- one step of the loop, which goes from the last bit to the first: bit `i - 1` replaces the value
+-- for its pin, and other values stay
 pub bits_step : (bits : List PortBit) (i : ℕ) (default : PortBit) (name : List ℕ) (old new : Option ℕ) → 0 < i → i ≤ length bits →
     old ≡ position_from (λ (b : PortBit). has_pin_named name b.pin) i (drop i bits)
     → new ≡ cond (has_pin_named name (get_or bits (i - 1) default).pin) (Some (i - 1)) old →

@@ -1,4 +1,4 @@
--- Properties of a selected chain.
+-- If the selection of a chain finds no fault, the chain has 1 to 255 parts with different names.
 use Rattle.std.proofs.Common.{◌≡◌, ℕ, suc, ◌+◌, ◌<◌, ◌≤◌, Bool, true, false, cond, List, [], ◌∷◌, ◌++◌, length, map, get_or, Option, Some, None, Result, Ok, Err, refl, sym, ap, ◌∙◌, arith}
 use Rattle.std.specs.Prelude.{slice_get, option_map, option_and_then, unwrap_or, IfOk}
 use Rattle.std.specs.List.{list_any}
@@ -22,7 +22,7 @@ use Rattle.board_lines.specs.ChainParts.{IsChain}
 use Rattle.board_lines.proofs.ApartLemmas.{apart_pairs, apart_weaker, unrepeated_apart}
 use Rattle.board_lines.proofs.FaultLemmas.{then_none, limit_kept}
 
--- `k` is within a list of `count` items numbered from `n` on
+-- `k`, counted from `n` on, is an index within a list of `count` items
 pub record Repeat (n count k : ℕ) : Type 0 where
   pub below : k < n + count
 
@@ -87,7 +87,6 @@ unless_ok : {V : Type 0} (o : Option BoardFault) (v w : V) → unless o v ≡ Ok
 unless_ok None v w e = (refl, cc e)
 unless_ok (Some f) v w e = cc e
 
--- if the rules on the chain find no fault, the chain has 1 to 255 parts with different names
 chain_kept : (lines : List ChainLine) (devices : List Named) (places : List (Option ℕ))
     (entities : List (List ℕ)) → first_fault (named PartName lines) devices places entities ≡ None
     → IsChain lines

@@ -16,14 +16,14 @@ use Rattle.board_lines.specs.Names.{named, names_of}
 use Rattle.board_lines.specs.declared.names.Naming.TheVariants.{Part as PartName}
 use Rattle.board_lines.specs.NetWords.{Pin, same_pin}
 
--- the chain has 1 to 255 parts with different names, as every selected chain has
+-- the chain has 1 to 255 parts, and their names differ
 pub record IsChain (lines : List ChainLine) : Type 0 where
   pub some : 1 ≤ length (named PartName lines)
   pub most : length (named PartName lines) ≤ most_parts
   pub differ : AllPairs (λ a b. a ≢ b) (names_of (named PartName lines))
 
 -- the part of a DEVICE or BYPASS line, or None for any other line; a DEVICE line takes the first of
--- the devices
+-- the devices, and has no part if there are no devices
 abbrev pub part_of_line : ChainStatement → List RawDevice → Option Part
 part_of_line (Device part entity pack) devices =
     option_map (λ device. record { name = part; kind = Described device }) (slice_get devices 0)
@@ -49,11 +49,11 @@ chain_parts (line ∷ lines) devices =
     cons_option (part_of_line line.statement devices)
     (chain_parts lines (devices_after line.statement devices))
 
--- a pin of a described part, and its place
+-- a pin of a described part, and its place: the numbers of its part and of its port bit
 abbrev pub PinPlace : Type 0
 PinPlace = Pin × PinAt
 
--- `places` with the pin of port bit `n` and its place in front, if the port bit has a pin
+-- `places`, preceded by the pin of port bit `n` and its place if the port bit has a pin
 abbrev pub with_place : ℕ → List ℕ → ℕ → Option (List ℕ) → List PinPlace → List PinPlace
 with_place part name n None places = places
 with_place part name n (Some pin) places = ((name, pin), record { part = part; bit = n }) ∷ places
@@ -80,7 +80,7 @@ pin_places parts = places_from 0 parts
 abbrev pub place_of_pin : List PinPlace → Pin → Option PinAt
 place_of_pin places pin = first_value same_pin places pin
 
--- the name of a part, if the part is described
+-- the name of a part, if the part is described, that is, not in BYPASS
 abbrev pub name_if_described : List ℕ → PartKind → Option (List ℕ)
 name_if_described name (Described device) = Some name
 name_if_described name (Bypass bits) = None

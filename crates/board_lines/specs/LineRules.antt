@@ -13,8 +13,7 @@ use Rattle.board_lines.specs.Faults.{◌then◌}
 use Rattle.board_lines.specs.Names.{Named, named, names_of}
 use Rattle.board_lines.specs.Selection.{spot_at}
 
--- the first place of each name of the list among the other names, or None for a name that is not
--- among them
+-- for each name of the list, the index of its first occurrence among the other names, or None
 abbrev pub first_places_among : List Named → List (List ℕ) → List (Option ℕ)
 first_places_among list others = map (first_place same_word others) (names_of list)
 
@@ -59,7 +58,7 @@ pulls_of (line ∷ lines) = cons_option (pull_of_line line.statement) (pulls_of 
 abbrev pub pull_of_net : List Pulled → List ℕ → Option Bool
 pull_of_net pulls name = first_value same_word pulls name
 
--- the first fault of the INERT, SUPPLY and PULL lines, by the rules in their order
+-- the first fault of the INERT, SUPPLY and PULL lines; the rules are checked in this order
 unfoldable pub line_fault : List ChainLine → List (List ℕ) → Option BoardFault
 line_fault chain names =
     inert_in_chain (named InertName chain) (names_of (named PartName chain))

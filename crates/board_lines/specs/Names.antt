@@ -52,7 +52,7 @@ pull_of (InertLine part) = None
 pull_of (SupplyLine net) = None
 pull_of (Link part first second) = None
 
--- the name on the line that has this role, if there is one
+-- the name with this role in the statement, if there is one
 abbrev pub name_in_role : Naming → ChainStatement → Option (List ℕ)
 name_in_role Part statement = part_of statement
 name_in_role Entity statement = entity_of statement
@@ -64,7 +64,7 @@ abbrev pub with_name : ℕ → Option (List ℕ) → List Named → List Named
 with_name line None named = named
 with_name line (Some name) named = (line, name) ∷ named
 
--- the names on the lines that have this role, each with the number of its line
+-- the names with this role on the lines, each with the number of its line
 abbrev pub named : Naming → List ChainLine → List Named
 named naming [] = []
 named naming (line ∷ lines) = with_name line.line (name_in_role naming line.statement) (named naming lines)

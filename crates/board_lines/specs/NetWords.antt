@@ -14,7 +14,7 @@ Pin = List ℕ × List ℕ
 abbrev pub same_pin : Pin → Pin → Bool
 same_pin a b = same_word a.0 b.0 && same_word a.1 b.1
 
--- a word that names a pin: the number of the net, the pin, and the place of the word
+-- a word that names a pin: the number of the net, the pin, and the line and number of the word
 abbrev pub NetWord : Type 0
 NetWord = (ℕ × Pin) × Spot
 
@@ -27,7 +27,7 @@ word_pin word = word.0.1
 abbrev pub spot_of : NetWord → Spot
 spot_of word = word.1
 
--- the pin whose two names are borrowed
+-- the pin with these two borrowed names
 abbrev pub lent_pin : Bor (List ℕ) × Bor (List ℕ) → Pin
 lent_pin p = (p.0.now, p.1.now)
 
@@ -42,7 +42,8 @@ same_place a b = (word_net a == word_net b) && same_pin (word_pin a) (word_pin b
 abbrev pub is_among : List (List ℕ) → List ℕ → Bool
 is_among names name = is_some (first_place same_word names name)
 
--- the names of the nets in the order of their first lines; a net's number is its place in this list
+-- the names of the nets in the order of their first lines; a net's number is the index of its name
+-- in this list
 abbrev pub net_names : List NetLine → List (List ℕ)
 net_names lines = once same_word (line_names lines)
 
@@ -54,7 +55,7 @@ abbrev pub line_words : ℕ → ℕ → ℕ → List PinWord → List NetWord
 line_words net line n [] = []
 line_words net line n (p ∷ pins) = ((net, (p.part, p.pin)), record { line = line; word = n }) ∷ line_words net line (n + 1) pins
 
--- the words of all lines that name pins; the first pin of a line is word 3 of the line
+-- the words that name pins, on all lines; the first pin of a line is word 3 of the line
 abbrev pub words_of_nets : List (List ℕ) → List NetLine → List NetWord
 words_of_nets names [] = []
 words_of_nets names (line ∷ lines) = line_words (net_number names line.name) line.line 3 line.pins ++ words_of_nets names lines
@@ -62,7 +63,7 @@ words_of_nets names (line ∷ lines) = line_words (net_number names line.name) l
 abbrev pub net_words : List NetLine → List NetWord
 net_words lines = words_of_nets (net_names lines) lines
 
--- the words that name pins, without each word that repeats a pin of the same net
+-- the words that name pins, leaving out each word that repeats a pin of the same net
 abbrev pub standing_words : List NetLine → List NetWord
 standing_words lines = once same_place (net_words lines)
 

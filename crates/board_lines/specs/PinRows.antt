@@ -1,4 +1,5 @@
--- The row of each part, which has the pins of the part's port bits, and the port bit of a pin.
+-- Rows of pins. A row has the pin of each port bit of a part, and parts with the same pins can
+-- share a row.
 use Rattle.std.specs.Prelude.{◌≡◌, ◌≢◌, ℕ, Bool, false, List, [], map, Option, Some, None, option_and_then, option_map, slice_get, AllPairs}
 use Rattle.std.specs.List.{position_from}
 use Rattle.std.proofs.Common.{Bor}
@@ -20,7 +21,7 @@ has_pin_named name (Some pin) = same_word pin name
 abbrev pub bit_of_pin : List (Option (List ℕ)) → List ℕ → Option ℕ
 bit_of_pin pins name = position_from (has_pin_named name) 0 pins
 
--- the pin of each port bit, if the port bit has a pin
+-- the pin of each port bit, or None for a port bit without a pin
 abbrev pub pins_of_bits : List PortBit → List (Option (List ℕ))
 pins_of_bits bits = map (λ bit. bit.pin) bits
 
@@ -37,15 +38,16 @@ row_at rows numbers part = option_and_then (λ number. slice_get rows number) (s
 abbrev pub ArePinRows : List (List (Option (List ℕ))) → List ℕ → List Part → Type 0
 ArePinRows rows numbers parts = map (λ number. slice_get rows number) numbers ≡ map (λ part. Some (pins_of_part part.kind)) parts
 
--- the place of the pin, if there is a part and a port bit of the part has the pin
+-- the place of this pin of part `part`, if there is such a part and one of its port bits has the
+-- pin
 abbrev pub place_by_part : List (List (Option (List ℕ))) → List ℕ → Option ℕ → List ℕ → Option PinAt
 place_by_part rows numbers None pin = None
 place_by_part rows numbers (Some part) pin =
     option_map (λ bit. record { part = part; bit = bit })
     (option_and_then (λ row. bit_of_pin row pin) (row_at rows numbers part))
 
--- no two parts have the same name, the map has the number of each part by its name, and the row of
--- each part has its pins
+-- no two parts have the same name; the map has the number of each part by its name; the row of each
+-- part has the part's pins
 pub record ArePlaces {S : Type 0} (by_name : IndexMap (Bor (List ℕ)) ℕ S)
     (rows : List (List (Option (List ℕ)))) (numbers : List ℕ) (parts : List Part) : Type 0 where
   pub named : (q : Bor (List ℕ)) → get_by (λ n. same_word q.now n.now) by_name ≡ first_place same_word (map (λ part. part.name) parts) q.now

@@ -1,4 +1,4 @@
--- The parts of a chain, and the entity of each described part.
+-- The rules on the parts of a chain, and the entity of each DEVICE line.
 use Rattle.std.specs.Prelude.{ℕ, List, length, map, nat_eq, nat_lt, slice_get, Option, Some, None, Result, option_map, option_and_then, is_none, unwrap_or, position, if◌then◌else◌}
 use Rattle.board_defs.specs.Limits.{most_parts}
 use Rattle.first_places.specs.Places.{first_place, first_repeat}
@@ -14,8 +14,8 @@ use Rattle.board_lines.specs.Names.{Named, named, names_of}
 use Rattle.board_lines.specs.BoardLimits.{limit_number}
 use Rattle.board_lines.specs.Faults.{◌then◌, unless}
 
--- the spot of the name at this place of the list; its word is always 1, since a fault of a chain
--- file names a whole line
+-- the line of the name at index `place` of the list, as a spot; its word is always 1, since a fault
+-- of a chain file names a whole line
 abbrev pub spot_at : List Named → ℕ → Option Spot
 spot_at list place = option_map (λ n. record { line = n.0; word = 1 }) (slice_get list place)
 
@@ -27,7 +27,7 @@ no_chain parts = if nat_eq (length parts) 0 then Some NoChain else None
 unfoldable pub part_twice : List Named → Option BoardFault
 part_twice parts = option_map PartTwice (option_and_then (spot_at parts) (first_repeat same_word (names_of parts)))
 
--- the place of each DEVICE line's entity in the list of entities
+-- the index in `entities` of each DEVICE line's entity, or None
 abbrev pub entity_places : List Named → List (List ℕ) → List (Option ℕ)
 entity_places devices entities = map (first_place same_word entities) (names_of devices)
 
@@ -43,7 +43,7 @@ entity_twice entities = option_map EntityTwice (first_repeat same_word entities)
 unfoldable pub chain_limit : List Named → Option BoardFault
 chain_limit parts = if nat_lt most_parts (length parts) then Some (Limit (limit_number ChainParts)) else None
 
--- the first fault of the chain, by the rules in their order
+-- the first fault of the chain; the rules are checked in this order
 unfoldable pub first_fault : List Named → List Named → List (Option ℕ) → List (List ℕ) → Option BoardFault
 first_fault parts devices places entities =
     no_chain parts then part_twice parts then no_entity devices places then entity_twice entities
@@ -52,11 +52,11 @@ first_fault parts devices places entities =
 abbrev pub entity_names : List Entity → List (List ℕ)
 entity_names entities = map (λ e. e.name) entities
 
--- the place of each DEVICE line's entity, or the first fault
+-- the index of each DEVICE line's entity, or the first fault
 unfoldable pub answer : List Named → List Named → List (Option ℕ) → List (List ℕ) → Result (List ℕ) BoardFault
 answer parts devices places entities = unless (first_fault parts devices places entities) (map (λ place. unwrap_or place 0) places)
 
--- the number of each DEVICE line's entity, or the first fault
+-- the index in `entities` of each DEVICE line's entity, or the first fault
 abbrev pub selection : List ChainLine → List Entity → Result (List ℕ) BoardFault
 selection lines entities =
     answer (named Part lines) (named EntityName lines)

@@ -1,4 +1,4 @@
-// The reasons for which files denote no board.
+// The faults of a board's files.
 ghost use Rattle.std.specs.Prelude.{◌≡◌, alloc_error};
 ghost use Rattle.board_lines.specs.declared.fault.BoardFault.TheVariants.{Memory};
 
@@ -29,7 +29,7 @@ pub enum BoardFault {
     GuardedDriver(Spot),
     #[error("line {} word {}: two drivers always on", .0.line, .0.word)]
     TwoAlwaysOn(Spot),
-    /// A limit that is exceeded, by its number (`Limit::number`).
+    /// The number of the limit that is exceeded (`Limit::number`).
     #[error("limit: {}", limit_name(*.0))]
     Limit(u32),
     #[error("out of memory")]

@@ -1,5 +1,6 @@
-//! The contents of a board's files: the parts of the chain, the entity of each part, the names of the nets, the words
-//! that name pins, and the nets that are pulled. The crate also has the rules on names that need only the lines.
+//! The contents of a board's files: the parts of the chain, the entity of each part, the names of
+//! the nets, the words that name pins, and the nets that are pulled. The crate also checks the
+//! rules on names, which need only the lines of the files.
 #![tactic(auto)]
 
 mod fault;

@@ -1,4 +1,4 @@
-//! The limits of a board, which a fault names by their numbers.
+//! The limits of a board. A fault names a limit by its number.
 ghost use Rattle.std.specs.Prelude.{◌≡◌};
 ghost use Rattle.board_lines.specs.BoardLimits.{limit_number, limit_name};
 
@@ -29,7 +29,7 @@ impl Limit {
     }
 }
 
-/// Returns what the limit with this number counts. A number that no limit has is taken for the number of `Limit::Pins`.
+/// Returns what the limit with this number counts. For a number other than 1 to 4, returns `pins`.
 pub fn limit_name(number: u32) -> &'static str
     ensures { result.now ≡ limit_name number }
 {

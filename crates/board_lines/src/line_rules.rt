@@ -15,7 +15,8 @@ use first_places::first_values;
 use indexmap::IndexMap;
 use std::alloc::{AllocError, Global};
 
-/// Returns, for each name of the list, its first place among `others`.
+/// Returns, for each name of the list, the index of its first occurrence in `others`, or None if
+/// there is none.
 fn places_of(
     alloc: Global,
     named: &[(u32, &[u8])],
@@ -37,7 +38,8 @@ fn found(places: &[Option<u32>]) -> Option<usize>
     places.iter().position(|place| place.is_some())
 }
 
-/// Returns the fault of the first INERT line whose part is in the chain.
+/// Returns the fault of the first INERT line whose part is in the chain, or None if there is no
+/// such line.
 #[tactic(auto, unfolding(crate::specs::LineRules::inert_in_chain))]
 pub fn inert_in_chain(
     alloc: Global,
@@ -56,7 +58,8 @@ pub fn inert_in_chain(
     }
 }
 
-/// Returns the fault of the first SUPPLY line whose net does not exist.
+/// Returns the fault of the first SUPPLY line whose net does not exist, or None if there is no such
+/// line.
 #[tactic(auto, unfolding(crate::specs::LineRules::no_supply_net))]
 pub fn no_supply_net(
     alloc: Global,
@@ -75,7 +78,8 @@ pub fn no_supply_net(
     }
 }
 
-/// Returns the fault of the first PULL line whose net does not exist.
+/// Returns the fault of the first PULL line whose net does not exist, or None if there is no such
+/// line.
 #[tactic(auto, unfolding(crate::specs::LineRules::no_pull_net))]
 pub fn no_pull_net(
     alloc: Global,
@@ -94,7 +98,8 @@ pub fn no_pull_net(
     }
 }
 
-/// Returns the fault of the first PULL line whose net an earlier PULL line names.
+/// Returns the fault of the first PULL line whose net an earlier PULL line names, or None if there
+/// is no such line.
 #[tactic(auto, unfolding(crate::specs::LineRules::pull_twice))]
 pub fn pull_twice(alloc: Global, pulls: &[(u32, &[u8])]) -> Result<Option<BoardFault>, AllocError>
     requires { length pulls.now < 2 ^ 32 }
@@ -149,14 +154,16 @@ pub fn pulls_by_net<'a>(
 pub fn pull_of_net(pulls: &IndexMap<&[u8], bool>, net: &[u8]) -> Option<bool>
     ensures { result ≡ get_by (λ n. same_word net.now n.now) pulls.now }
 {
-    // A look-up would hash the name first, so an empty map is not searched.
+    // Looking up a name hashes it first, which an empty map makes unnecessary.
     if pulls.is_empty() {
         return None;
     }
     pulls.get(&net).copied()
 }
 
-/// Returns the first fault of the INERT, SUPPLY and PULL lines, by the rules in their order.
+/// Returns the first fault of the INERT, SUPPLY and PULL lines. The rules are checked in the order
+/// InertInChain, NoSupplyNet, NoPullNet, PullTwice. There must be fewer than 2^32 lines and fewer
+/// than 2^32 nets.
 #[tactic(auto, unfolding(crate::specs::LineRules::line_fault))]
 pub fn line_fault(
     alloc: Global,
@@ -183,7 +190,7 @@ pub fn line_fault(
     pull_twice(alloc, &pulls)
 }
 
-/// Returns the names on the lines that have the role `naming`.
+/// Returns the names with the role `naming` on these lines, in order.
 pub fn names_in<'a>(
     alloc: Global,
     lines: &'a [ChainLine],

@@ -36,7 +36,7 @@ pub fn name_of(statement: &ChainStatement, naming: Naming) -> Option<&Name>
     }
 }
 
-/// Returns the names on the lines that have the role `naming`, each with the number of its line.
+/// Returns the names with the role `naming` on these lines, each with the number of its line.
 pub fn named<'a>(
     alloc: Global,
     lines: &'a [ChainLine],
@@ -68,7 +68,8 @@ pub fn names_of<'a>(alloc: Global, named: &[(u32, &'a [u8])]) -> Result<Vec<&'a 
     Ok(names)
 }
 
-/// Returns the place of the first name that also occurs earlier in the list.
+/// Returns the index of the first name that also occurs earlier in the list. There must be fewer
+/// than 2^32 names.
 pub fn first_repeat_of(alloc: Global, names: &[&[u8]]) -> Result<Option<u32>, AllocError>
     requires { length names.now < 2 ^ 32 }
     ensures { IfOk result (λ place. place ≡ first_repeat same_word (map (λ n. n.now) names.now)) }
@@ -76,7 +77,8 @@ pub fn first_repeat_of(alloc: Global, names: &[&[u8]]) -> Result<Option<u32>, Al
     first_repeat(alloc, names)
 }
 
-/// Returns a map from each name to its first place in the list.
+/// Returns a map from each name to the index of its first occurrence. There must be fewer than 2^32
+/// names.
 pub fn first_places_of<'a>(
     alloc: Global,
     names: &[&'a [u8]],
@@ -90,11 +92,11 @@ pub fn first_places_of<'a>(
     first_places(alloc, names)
 }
 
-/// Returns the place that the map has for this name, or None if the map does not have the name.
+/// Returns the index that the map has for this name, or None if the map does not have the name.
 pub fn place_of(places: &IndexMap<&[u8], u32>, name: &[u8]) -> Option<u32>
     ensures { result ≡ get_by (λ n. same_word name.now n.now) places.now }
 {
-    // A look-up would hash the name first, so an empty map is not searched.
+    // Looking up a name hashes it first, which an empty map makes unnecessary.
     if places.is_empty() {
         return None;
     }
@@ -116,7 +118,8 @@ fn places_by(
         .collect(alloc)
 }
 
-/// Returns the first place of each of `names` among `others`.
+/// Returns, for each of `names`, the index of its first occurrence in `others`, or None if there is
+/// none. `others` must have fewer than 2^32 names.
 pub fn places_among(
     alloc: Global,
     names: &[&[u8]],
@@ -136,8 +139,8 @@ pub fn places_among(
     places_by(alloc, names, &known)
 }
 
-/// Returns the different names in the order of their first places, and, for each of `names`, the
-/// number of the name in this order.
+/// Returns the distinct names in the order of their first occurrences, and, for each of `names`,
+/// its index among the distinct names. There must be fewer than 2^32 names.
 pub fn numbered_names<'a>(
     alloc: Global,
     names: &[&'a [u8]],

@@ -1,4 +1,5 @@
-// The pins of a device, each with its port bit. Parts with the same pins share a row.
+// Rows of pins. A row has the pins of a device, and finds the port bit of a pin. Parts with the
+// same pins can share a row.
 ghost use Rattle.std.specs.Prelude.{◌≡◌, ◌<◌, ◌≤◌, ◌^◌, if◌then◌else◌, length, slice_get, true, IfOk, IfSome, List, OnOk, Option, Some, ℕ};
 ghost use Rattle.board_defs.specs.Limits.{most_bits};
 ghost use Rattle.std.proofs.Common.{Bor};
@@ -11,9 +12,8 @@ use indexmap::IndexMap;
 use std::alloc::{AllocError, Global};
 use std::marker::Model;
 
-/// The number of rows that are compared in the search for a row with the same pins. On a board with
-/// many different devices, few rows can be shared, and comparing every two rows would take too
-/// long.
+/// The search for a row with the same pins compares at most this many rows. On a board with many
+/// different devices, few parts can share a row, and comparing with every row would take too long.
 const ROWS_COMPARED: usize = 16;
 
 /// Returns the port bits of a part. A part in BYPASS has no port bits.
@@ -27,7 +27,7 @@ pub fn bits_of(kind: &PartKind) -> &[PortBit]
     }
 }
 
-/// Maps the pin to this port bit, if there is a pin.
+/// Sets the map's value for the pin to `bit`, if there is a pin.
 fn put_pin<'a>(
     bits: &mut IndexMap<&'a [u8], u32>,
     pin: &'a Option<Name>,
@@ -45,7 +45,8 @@ fn put_pin<'a>(
     Ok(())
 }
 
-/// Returns a map from each pin to the first port bit with this pin.
+/// Returns a map from each pin to the number of the first port bit with this pin. There must be
+/// fewer than 2^32 port bits.
 fn bits_by_pin<'a>(
     alloc: Global,
     bits: &'a [PortBit],
@@ -91,7 +92,8 @@ fn have_same_pins(a: &[PortBit], b: &[PortBit]) -> bool
     true
 }
 
-/// The pins of the port bits of a part. In contracts, the value is the list of the pins.
+/// The pins of the port bits of a part. In contracts, the value is the list of these pins, with
+/// None for a port bit without a pin.
 #[derive(Drop)]
 pub struct PinRow<'a> {
     bits: &'a [PortBit],
@@ -123,7 +125,7 @@ impl<'a> PinRow<'a> {
         Ok(PinRow { bits, by_pin })
     }
 
-    /// Returns the first port bit with this pin, or None if no port bit has it.
+    /// Returns the number of the first port bit with this pin, or None if no port bit has it.
     pub fn bit_of(&self, pin: &[u8]) -> Option<u32>
         ensures { result ≡ bit_of_pin self.now pin.now }
     {
@@ -155,7 +157,7 @@ fn row_among(rows: &[PinRow<'_>], bits: &[PortBit]) -> Option<usize>
 }
 
 /// Returns the number of a row with the pins of these port bits. Adds a row if there is none among
-/// the first `ROWS_COMPARED` rows.
+/// the first `ROWS_COMPARED` rows. There must be fewer than 2^32 port bits.
 pub fn row_of<'a>(
     alloc: Global,
     rows: &mut Vec<PinRow<'a>>,

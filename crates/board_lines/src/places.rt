@@ -1,5 +1,5 @@
-// The place of each pin in the chain, which is found by the name of the pin's part and then by the
-// pin's own name.
+// Finds the place of a pin in the chain: the number of its part, and the number of its port bit in
+// the part. The part is looked up by its name, and then the port bit by the pin's own name.
 ghost use Rattle.std.specs.Prelude.{◌≡◌, ◌≢◌, ◌<◌, ◌^◌, AllPairs, length, map, option_and_then, slice_get, IfOk, List, Option, Some, ℕ};
 ghost use Rattle.std.proofs.Common.{Bor};
 ghost use Rattle.indexmap.specs.IndexMap.{get_by};
@@ -28,7 +28,8 @@ fn part_names<'a>(alloc: Global, parts: &'a [Part]) -> Result<Vec<&'a [u8]>, All
     Ok(names)
 }
 
-/// Returns a map from the name of each part to its number.
+/// Returns a map from each part name to the number of the first part with this name. There must be
+/// fewer than 2^32 parts.
 fn parts_by_name<'a>(
     alloc: Global,
     parts: &'a [Part],
@@ -64,7 +65,8 @@ fn rows_of<'a>(alloc: Global, parts: &'a [Part]) -> Result<PartRows<'a>, AllocEr
     Ok(PartRows { rows, numbers })
 }
 
-/// Returns the first port bit of part `part` that has the pin. Looks it up in the part's row.
+/// Returns the number of the first port bit of part `part` with this pin, or None if there is none.
+/// Looks the pin up in the part's row.
 fn bit_in(rows: &[PinRow<'_>], numbers: &[usize], part: u32, pin: &[u8]) -> Option<u32>
     ensures { result
         ≡ option_and_then (λ row. bit_of_pin row pin.now) (row_at rows.now numbers.now part) }
@@ -78,8 +80,8 @@ fn bit_in(rows: &[PinRow<'_>], numbers: &[usize], part: u32, pin: &[u8]) -> Opti
     }
 }
 
-/// Returns the place of a pin. Looks up the number of the pin's part by the part's name, and then
-/// the pin in the part's row.
+/// Returns the place of a pin, or None if it has none. Looks up the number of the pin's part by the
+/// part's name, and then the pin in the part's row.
 fn place_in(
     by_name: &IndexMap<&[u8], u32>,
     rows: &[PinRow<'_>],
@@ -124,7 +126,8 @@ impl<'a> Model for PinPlaces<'a> {
 }
 
 impl<'a> PinPlaces<'a> {
-    /// Returns the places of the pins of these parts.
+    /// Returns the places of the pins of these parts. There must be fewer than 2^32 parts, and
+    /// their names must differ.
     pub fn of(alloc: Global, parts: &'a [Part]) -> Result<PinPlaces<'a>, AllocError>
         requires few { length parts.now < 2 ^ 32 }
         requires differ { AllPairs (λ a b. a ≢ b) (map (λ part. part.name) parts.now) }
@@ -139,7 +142,7 @@ impl<'a> PinPlaces<'a> {
         })
     }
 
-    /// Returns the place of the pin in the chain, or None if the pin has no place.
+    /// Returns the place of the pin in the chain, or None if no port bit of the chain has the pin.
     pub fn place_of_pin(&self, pin: &PinName<'_>) -> Option<PinAt>
         ensures { result ≡ place_of_pin (pin_places self.now) (lent_pin pin.now) }
     {

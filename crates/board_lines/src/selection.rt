@@ -1,4 +1,4 @@
-// The entity of each described part of a chain.
+// The entity of each DEVICE line of a chain.
 ghost use Rattle.std.specs.Prelude.{◌≡◌, ◌<◌, ◌^◌, All, map, length, vec_len, IfOk, unwrap_or, Option, position, is_none};
 ghost use Rattle.answers.specs.Gives.{Gives};
 ghost use Rattle.board_lines.specs.Faults.{board_told};
@@ -15,8 +15,9 @@ use board_files::ChainFile;
 use bsdl_parser::Entity;
 use std::alloc::{AllocError, Global};
 
-/// Returns the number of each DEVICE line's entity, or the first fault of the chain. The entities
-/// are numbered from 0.
+/// Returns the index in `entities` of each DEVICE line's entity, or the first fault of the chain.
+/// If there is no fault, the chain has 1 to 255 parts with different names. There must be fewer
+/// than 2^32 entities.
 pub fn select(alloc: Global, chain: &ChainFile, entities: &[Entity]) -> Result<Vec<u32>, BoardFault>
     requires { length entities.now < 2 ^ 32 }
     ensures numbers { Gives board_told (λ numbers. numbers.items)
@@ -42,7 +43,8 @@ fn entity_numbers(
     numbers_among(alloc, chain, &names)
 }
 
-/// Returns the number of each DEVICE line's entity among these names, or the first fault of the chain.
+/// Returns the index of each DEVICE line's entity among these names, or the first fault of the
+/// chain. There must be fewer than 2^32 names.
 fn numbers_among(
     alloc: Global,
     chain: &ChainFile,
@@ -60,7 +62,8 @@ fn numbers_among(
     answer(alloc, &parts, &devices, &places, entities)
 }
 
-/// Returns the place of each DEVICE line's entity, or the first fault.
+/// Returns the index of each DEVICE line's entity, or the first fault. `places` has this index for
+/// each of `devices`, or None if the entity is not in `entities`.
 #[tactic(auto, unfolding(crate::specs::Selection::answer))]
 fn answer(
     alloc: Global,
@@ -82,7 +85,8 @@ fn answer(
     }
 }
 
-/// Returns the place of each DEVICE line's entity in the list of entities.
+/// Returns the index in `entities` of each DEVICE line's entity, or None if the entity is not
+/// there.
 fn entity_places(
     alloc: Global,
     devices: &[(u32, &[u8])],
@@ -168,8 +172,8 @@ fn chain_limit(parts: &[(u32, &[u8])]) -> Option<BoardFault>
     }
 }
 
-/// Returns the spot of the name at this place of the list. The spot's word is always 1, since a
-/// fault of a chain file names a whole line.
+/// Returns the line of the name at index `place` of the list, as a `Spot`, or None past the end of
+/// the list. The spot's word is always 1, since a fault of a chain file names a whole line.
 pub fn spot_at(named: &[(u32, &[u8])], place: usize) -> Option<Spot>
     ensures { result ≡ spot_at (map (λ n. (n.0, n.1.now)) named.now) place }
 {

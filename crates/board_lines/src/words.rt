@@ -13,20 +13,21 @@ use std::alloc::{AllocError, Global};
 /// A pin: the name of its part, and its own name.
 pub type PinName<'a> = (&'a [u8], &'a [u8]);
 
-/// A word that names a pin: the number of the net, the pin, and the place of the word.
+/// A word that names a pin: the number of the net, the pin, and the line and number of the word.
 pub type NetWord<'a> = ((u32, PinName<'a>), Spot);
 
 /// The names of the nets in a net file.
 #[derive(Drop)]
 pub struct NetNames<'a> {
-    /// The names in the order of their first lines. The number of a net is the place of its name in
-    /// this list.
+    /// The distinct names, in the order of their first lines. The number of a net is the index of
+    /// its name in this list.
     pub names: Vec<&'a [u8]>,
     /// The number of each line's net.
     pub numbers: Vec<u32>,
 }
 
-/// Returns the names of the nets, and the number of each line's net.
+/// Returns the names of the nets, and the number of each line's net. There must be fewer than 2^32
+/// lines.
 pub fn net_names<'a>(alloc: Global, lines: &'a [NetLine]) -> Result<NetNames<'a>, AllocError>
     requires { length lines.now < 2 ^ 32 }
     ensures names { IfOk result (λ net. map (λ n. n.now) net.names.items ≡ net_names lines.now) }
@@ -52,7 +53,8 @@ fn number_at(numbers: &[u32], place: usize) -> u32
     }
 }
 
-/// Appends the words of a line that name pins. The first pin of a line is word 3 of the line.
+/// Appends a word for each pin of a line. The first pin of a line is word 3 of the line, so it can
+/// have at most 2^32 - 3 pins.
 fn push_line<'a>(
     words: &mut Vec<NetWord<'a>>,
     net: u32,
@@ -76,7 +78,8 @@ fn push_line<'a>(
     Ok(())
 }
 
-/// Returns the words of all lines that name pins. `numbers` has the number of each line's net.
+/// Returns the words that name pins, on all lines. `numbers` must have the number of each line's
+/// net, and each line must have fewer than 2^32 words.
 pub fn net_words<'a>(
     alloc: Global,
     numbers: &[u32],
@@ -96,7 +99,7 @@ pub fn net_words<'a>(
     Ok(words)
 }
 
-/// Returns the words, without each word that repeats a pin of the same net.
+/// Returns the words, leaving out each word that repeats the net and the pin of an earlier word.
 pub fn once_words<'a>(alloc: Global, words: &[NetWord<'a>]) -> Result<Vec<NetWord<'a>>, AllocError>
     ensures { IfOk result
         (λ kept. map lent_word kept.items ≡ once same_place (map lent_word words.now)) }
