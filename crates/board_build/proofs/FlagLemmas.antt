@@ -8,8 +8,8 @@ use Rattle.board_defs.specs.DeviceRules.{is_driving, drives_bit, driving_entry, 
 use Rattle.board_defs.proofs.CellLemmas.{off_past}
 use Rattle.board_build.specs.inner.Marked.{AreFlags, has_no_control}
 
--- if the old flags are right for the entries from `i` on, and handling entry `i - 1` keeps flags
--- right, the new flags are right for the entries from `i - 1` on
+-- one step of the loop, which goes from the last entry to the first: the new flags are right for
+-- the entries from `k` on
 pub flags_more : (cells : List Cell) (i k bits : ℕ) (old new : List Bool) (d : Cell) → k + 1 ≡ i
     → k < length cells → AreFlags (drop i cells) bits old →
     (AreFlags (drop i cells) bits old → AreFlags (get_or cells k d ∷ drop i cells) bits new) → AreFlags (drop k cells) bits new

@@ -1,5 +1,5 @@
--- The pins of each net, which a loop gathers word by word, and the nets made from the names and
--- these groups of pins.
+-- Lemmas about a loop that gathers the pins of each net word by word, and about the nets made from
+-- the names and these groups.
 use Rattle.std.proofs.Common.{◌≡◌, ◌≢◌, ℕ, zero, suc, ◌+◌, ◌<◌, ◌≤◌, ◌==◌, Bool, true, false, cond, List, [], ◌∷◌, ◌++◌, length, map, take, drop, get_or, set, append_assoc, nat_lt, Option, Some, None, refl, sym, ap, ◌∙◌, arith, Bor}
 use Rattle.std.specs.Prelude.{filter, zip, slice_get, option_map}
 use Rattle.std.specs.Option.{option_to_list}
@@ -21,8 +21,6 @@ one_pin : (m : Marked) (b : Bool) → map pin_with (cond b (m ∷ []) []) ≡ co
 one_pin m true = refl
 one_pin m false = refl
 
--- net `n`'s group from the first `i + 1` words is the group from the first `i` words, followed by
--- the pin of word `i` if this word is in net `n`
 pub group_more : (words : List MarkedWord) (i : ℕ) (w : MarkedWord) (n : ℕ) → i < length words → get_or words i w ≡ w →
     marked_group (map seen_word (take (i + 1) words)) n
     ≡ marked_group (map seen_word (take i words)) n
@@ -36,8 +34,8 @@ group_more words i w n within read =
     (filter (λ m. marked_net m == n) (seen_word w ∷ []))
     ∙ ap (λ v. marked_group (map seen_word (take i words)) n ++ v) (one_pin (seen_word w) (w.net == n))
 
--- if the groups are right for the first `i` words, and the pin of word `i` is appended to the group
--- of the word's net, the new groups are right for the first `i + 1` words
+-- one step of the loop if word `i` is in one of the nets: its pin is appended to the group of its
+-- net
 pub groups_step : (words : List MarkedWord) (i : ℕ) (w : MarkedWord) (count : ℕ)
     (old new : List (List NetPin)) → i < length words → get_or words i w ≡ w → w.net < length old →
     new ≡ set old w.net (get_or old w.net [] ++ pin_with (seen_word w) ∷ [])
@@ -77,8 +75,7 @@ groups_step words i w count old new within read inside changed was n less = by_t
         wrong : true ≡ false → ⊥
         wrong h = cc h
 
--- if the groups are right for the first `i` words, and word `i` is in none of the nets, the groups
--- are right for the first `i + 1` words
+-- one step of the loop if word `i` is in none of the nets: no group changes
 pub groups_kept : (words : List MarkedWord) (i : ℕ) (w : MarkedWord) (count : ℕ)
     (old : List (List NetPin)) → i < length words → get_or words i w ≡ w → (w.net < count → ⊥) →
     ((n : ℕ) → n < count → get_or old n [] ≡ marked_group (map seen_word (take i words)) n)
@@ -126,7 +123,6 @@ nets_zip supply pull supplies pulls words hs hp (q ∷ names) (g ∷ gs) n count
     later : (k : ℕ) → k < length names → get_or gs k [] ≡ marked_group words (n + 1 + k)
     later k less = let there : n + suc k ≡ n + 1 + k = omega arith in h (suc k) (omega (arith, less)) ∙ ap (marked_group words) there
 
--- marks with equal fields are equal
 pub mark_cong : (parts : List Part) (word : NetWord) (d e : Bool) (a b : Option PinAt) (i j : Bool) → d ≡ e → a ≡ b → i ≡ j →
     ◌≡◌ {A = Marked}
     (record { word = word; described = d; at = a; inert = i; always_on = is_free_at parts a })
@@ -139,8 +135,6 @@ mark_cong parts word d e a b i j ed ea ei =
     m) ea
     ∙ ap (λ (v : Bool). let m : Marked = record { word = word; described = e; at = b; inert = v; always_on = is_free_at parts b } in m) ei
 
--- if P holds of item `i` of a list, and `i` is within the list, P holds of the result of the
--- look-up at `i`
 pub at_place : {A : Type 0} (P : Option A → Type 0) (xs : List A) (i : ℕ) → i < length xs
     → ((x : A) → get_or xs i x ≡ x → P (Some x)) → P (slice_get xs i)
 at_place {A} P xs i within given = by_get (slice_get xs i) refl
@@ -154,8 +148,7 @@ at_place {A} P xs i within given = by_get (slice_get xs i) refl
         outside (y ∷ ys) (suc k) h f = outside ys k (omega (arith, h)) f
     by_get (Some x) e = given x (get_or_from_slice_get xs i x x e)
 
--- if the groups are right for the first `i` words, the groups after the loop handles word `i` are
--- right for the first `i + 1` words
+-- one step of the loop, whether word `i` is in one of the nets or not
 pub groups_more : (words : List MarkedWord) (i count len : ℕ) (old new : List (List NetPin))
     → i < length words → len ≡ count → length old ≡ len →
     new ≡ groups_after (slice_get words i) len old
@@ -184,8 +177,7 @@ zip_nil : {A B : Type 0} (xs : List A) → ◌≡◌ {A = List (A × B)} (zip xs
 zip_nil [] = refl
 zip_nil (x ∷ xs) = refl
 
--- if the nets so far, followed by the nets of the names and groups from name `i` on, are all nets,
--- the same is true from name `i + 1` on after the net of name `i` is appended
+-- one step of the loop: the net of name `i` is appended
 pub zip_step : {A G N : Type 0} (f : A × G → N) (names : List A) (i : ℕ) (gs rest : List G)
     (nets new all : List N) → i < length names → rest ≡ drop 1 gs →
     new ≡ nets_after f (slice_get names i) (slice_get gs 0) nets
@@ -214,8 +206,7 @@ zip_step {A} {G} {N} f names i gs rest nets new all within er en same =
         ∙ ap (λ (v : List N). v ++ map f (zip (drop (i + 1) names) hs)) (sym now)
         ∙ ap (λ (v : List G). new ++ map f (zip (drop (i + 1) names) v)) (sym er)
 
--- if the marks are right for the first `i` words, the marks followed by the mark of word `i` are
--- right for the first `i + 1` words
+-- one step of the loop: the mark of word `i` is appended
 pub mark_step : {A N : Type 0} (f : A → N) (words : List A) (i : ℕ) (done new : List N)
     → i < length words → new ≡ marks_after f (slice_get words i) done → done ≡ map f (take i words)
     → new ≡ map f (take (i + 1) words)

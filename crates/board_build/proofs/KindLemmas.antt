@@ -27,8 +27,7 @@ use Rattle.board_build.proofs.LawLemmas.{is_board}
 abbrev AreParts : List Part → Type 0
 AreParts parts = AllByRecursion (λ part. IsPart part.kind) parts
 
--- if the parts of the later lines keep the rules of a part, so do the part of this line and the
--- parts of the later lines
+-- one step of the induction over the lines: `rest` has the parts of the later lines
 line_kinds : (statement : ChainStatement) (devices : List RawDevice) (rest : List Part)
     → HasBypassLength statement → AllByRecursion IsDevice devices
     → (AllByRecursion IsDevice (devices_after statement devices) → AreParts rest)
@@ -41,7 +40,6 @@ line_kinds (Supply net) devices rest has are next = next are
 line_kinds (Pull net value) devices rest has are next = next are
 line_kinds (Link part first second) devices rest has are next = next are
 
--- if the devices keep the rules of a device, the parts of the lines keep the rules of a part
 part_kinds : (lines : List ChainLine) (devices : List RawDevice)
     → AllByRecursion (λ line. HasBypassLength line.statement) lines
     → AllByRecursion IsDevice devices → AreParts (chain_parts lines devices)
@@ -54,8 +52,6 @@ unless_none : (fault : Option BoardFault) (whole board : RawBoard) → unless fa
 unless_none None whole board is = (refl, cc)
 unless_none (Some fault) whole board is = absurd cc
 
--- if the chain is selected, the devices keep the rules of a device, and the files denote a board,
--- the board keeps the rules of a board
 pub board_is : (chain : List ChainLine) (nets : List NetLine) (devices : List RawDevice)
     (board : RawBoard) → IsChain chain
     → AllByRecursion (λ line. HasBypassLength line.statement) chain

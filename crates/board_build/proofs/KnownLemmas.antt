@@ -37,7 +37,7 @@ some_value {K} {V} eq (item ∷ items) q = by_test (eq item.0 q) (some_value eq 
     by_test true e = refl
     by_test false e = e
 
--- if a part has another name than the pin's part, the part's port bits give no place of the pin
+-- a part that does not have the name of the pin's part gives no place of the pin
 none_in_bits : (part : ℕ) (name : List ℕ) (n : ℕ) (bits : List PortBit) (pin : Pin)
     → same_word name pin.0 ≡ false
     → list_any (λ (i : PinPlace). same_pin i.0 pin) (bit_places part name n bits) ≡ false
@@ -75,7 +75,6 @@ none_placed n (part ∷ parts) pin e =
         ap (λ b. b || list_any (λ (i : PinPlace). same_pin i.0 pin) (places_from (n + 1) parts))
         (none_in_bits n part.name 0 device.bits pin both.0) ∙ rest both.1
 
--- a pin that has a place belongs to a described part
 placed_known : (parts : List Part) (pin : Pin)
     → (is_some (place_of_pin (pin_places parts) pin) || is_among (described_names parts) pin.0)
     ≡ is_among (described_names parts) pin.0
@@ -89,8 +88,8 @@ placed_known parts pin = by_test (is_among (described_names parts) pin.0) refl
         ∙ none_placed 0 parts pin
         (sym (some_place (λ name. same_word name pin.0) 0 (described_names parts)) ∙ e))
 
--- the code's test, which first asks whether the pin has a place, agrees with the test whether the
--- pin's part is described
+-- the code first asks whether the pin has a place; its answer is still whether the pin's part is
+-- described
 pub known_same : (parts : List Part) (pin : Pin) (d : Bool) (a : Option PinAt)
     → d ≡ is_among (described_names parts) pin.0 → a ≡ place_of_pin (pin_places parts) pin
     → (is_some a || d) ≡ is_among (described_names parts) pin.0

@@ -102,8 +102,8 @@ inert_alike parts marks words names none = record {
       ap (λ (v : NetPin). v.inert) a.is ∙ ap (is_among marks.inerts) part ∙ sym (ap (λ (v : NetPin). v.inert) b.is);
 }
 
--- if a pin of a net is an always-on driver and is made from a word, `drives_always` is true of the
--- pin that this word names
+-- a pin that is an always-on driver is made from a word, and `drives_always` is true of the pin
+-- that this word names
 drives_at : (parts : List Part) (marks : NetMarks) (words : List NetWord) (names : List (List ℕ))
     (n place : ℕ) (net : Net) (pin : NetPin) → slice_get (board_nets marks words names) n ≡ Some net
     →
@@ -208,8 +208,6 @@ one_always_on parts marks words names single n net i j p q at at_p at_q differ d
         → (word_net a == word_net b) ≡ false) (words_on words n) apart j i y x less ey ex on_y
         on_x)
 
--- if the parts have the names of the DEVICE and BYPASS lines, there are as many parts as there are
--- such lines
 part_count : (chain : List ChainLine) (parts : List Part)
     → map (λ part. part.name) parts ≡ names_of (named PartName chain)
     → length parts ≡ length (named PartName chain)
@@ -224,8 +222,6 @@ pairs_map {X} {Y} f R xs h i j d less within =
     let Q : Y → Type 0 = λ v. R (f (slice_index_or xs i d)) v in
     subst Q (get_or-map f xs j d (f d) within) (subst P (get_or-map f xs i d (f d) low) (h i j (f d) less inside))
 
--- if the chain is selected, each part keeps the rules of a part, and no rule finds a fault, the
--- board keeps the rules of a board
 pub is_board : (chain : List ChainLine) (nets : List NetLine) (parts : List Part) → IsChain chain
     → map (λ part. part.name) parts ≡ names_of (named PartName chain)
     → All (λ part. IsPart part.kind) parts → board_fault chain nets parts ≡ None

@@ -18,8 +18,7 @@ use Rattle.board_lines.proofs.ApartLemmas.{Apart, apart_pairs, apart_map, apart_
 abbrev pub words_on : List NetWord → ℕ → List NetWord
 words_on words n = filter (λ word. word_net word == n) words
 
--- the net is net `n` of the nets numbered from `first` on, and has the name at place `n` of the
--- list
+-- the net is net `n` of the nets numbered from `first` on, and has name `n` of the list
 pub record NetAt (marks : NetMarks) (words : List NetWord) (first : ℕ) (names : List (List ℕ)) (n : ℕ) (net : Net) : Type 0 where
   pub name : List ℕ
   pub named : slice_get names n ≡ Some name
@@ -48,7 +47,6 @@ pub names_of_nets : (marks : NetMarks) (words : List NetWord) (first : ℕ) (nam
 names_of_nets marks words first [] = refl
 names_of_nets marks words first (name ∷ names) = ap (λ (v : List (List ℕ)). name ∷ v) (names_of_nets marks words (first + 1) names)
 
--- if the names differ, the names of the nets differ
 pub nets_differ : (marks : NetMarks) (words : List NetWord) (names : List (List ℕ))
     → Apart (λ a b. same_word a b ≡ false) names
     → AllPairs (λ (a b : Net). a.name ≢ b.name) (board_nets marks words names)
@@ -59,8 +57,7 @@ nets_differ marks words names h =
     (subst P (sym (names_of_nets marks words 0 names))
     (apart_weaker _ _ (λ a b e. other_text a b (sym e)) names h)))
 
--- the pin at `place` of net `n` is made from this word, which is the word at the same place among
--- the net's words
+-- the pin at index `place` of net `n` is made from the word at the same index among the net's words
 pub record PinAtWord (marks : NetMarks) (words : List NetWord) (n place : ℕ) (pin : NetPin) : Type 0 where
   pub word : NetWord
   pub stands : slice_get (words_on words n) place ≡ Some word
@@ -91,13 +88,12 @@ same_pin_of a b e f =
 not_apart : (a b : NetWord) → (word_pin a).0 ≡ (word_pin b).0 → (word_pin a).1 ≡ (word_pin b).1 → have_same_pin a b ≡ false → ⊥
 not_apart a b e f h = clash (have_same_pin a b) (same_pin_of (word_pin a) (word_pin b) e f) h
 
--- the nets `m` and `n` are the same, and so are the places `i` and `j` in them
+-- the nets `m` and `n` are the same, and so are the indices `i` and `j`
 pub record SameWord (m n i j : ℕ) : Type 0 where
   pub net : m ≡ n
   pub place : i ≡ j
 
--- if no two words name the same pin, two words with the same pin are at the same place of the same
--- net
+-- if no two words name the same pin, two words with the same pin are the same word of the same net
 pub one_word : (words : List NetWord) → Apart (λ a b. have_same_pin a b ≡ false) words
     → (m n i j : ℕ) (a b : NetWord) → slice_get (words_on words m) i ≡ Some a
     → slice_get (words_on words n) j ≡ Some b →
@@ -130,8 +126,7 @@ abbrev count_of : Bool → ℕ
 count_of true = 1
 count_of false = 0
 
--- if an item that passes `p` or `q` passes `r`, and none passes both `p` and `q`, the counts of
--- items that pass `p` and that pass `q` add up to at most the count of items that pass `r`
+-- `p` and `q` exclude each other, and each of them implies `r`
 cut_count : {X : Type 0} (p q r : X → Bool)
     → ((x : X) → count_of (p x) + count_of (q x) ≤ count_of (r x)) → (xs : List X)
     → length (filter p xs) + length (filter q xs) ≤ length (filter r xs)

@@ -47,8 +47,6 @@ parts_named_by n (SupplyLine net) lines devices ih h = ih devices h
 parts_named_by n (PullLine net value) lines devices ih h = ih devices h
 parts_named_by n (Link part first second) lines devices ih h = ih devices h
 
--- if there is a device for each DEVICE line, the parts have the names of the DEVICE and BYPASS
--- lines, in order
 pub parts_named : (lines : List ChainLine) (devices : List RawDevice)
     → length devices ≡ length (named EntityName lines)
     → map (λ part. part.name) (chain_parts lines devices) ≡ names_of (named PartName lines)
@@ -162,7 +160,6 @@ site n (p ∷ parts) s h = by_part (site (n + 1) parts s) (has_append (part_plac
     by_part rest (inl k) = site_here n p parts s p.kind refl k
     by_part rest (inr k) = site_later n p parts s (rest k)
 
--- if a search for the name `x` finds nothing, no name of the list is `x`
 none_among : (names : List (List ℕ)) (x : List ℕ) (n : ℕ)
     → is_some (position_from (λ k. same_word k x) n names) ≡ false
     → AllByRecursion (λ name. same_word name x ≡ false) names
@@ -184,7 +181,6 @@ not_among names x h = weaker names (none_among names x 0 h)
     weaker [] h = tt
     weaker (name ∷ list) h = (other_text name x (sym h.0), weaker list h.1)
 
--- if `x` is not the name of a described part, each part with the name `x` is not described
 undescribed : (parts : List Part) (x : List ℕ)
     → AllByRecursion (λ name. name ≢ x) (described_names parts)
     → AllByRecursion (λ part. part.name ≡ x → described part.kind ≡ None) parts

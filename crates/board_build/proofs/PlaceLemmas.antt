@@ -57,8 +57,7 @@ any_weaker {X} p q h (x ∷ xs) e = by_test (any_weaker p q h xs) (p x) (q x) re
     by_test rest true false ea eb k = let wrong : true ≡ false = sym (h x ea) ∙ eb in cc wrong
     by_test rest false false ea eb k = rest k
 
--- if `p x y` implies `q x y`, and no item of the list repeats an earlier one by `q`, none repeats
--- an earlier one by `p`
+-- a list without repeats by `q` has no repeats by the stronger test `p`
 repeated_weaker : {X : Type 0} (p q : X → X → Bool) → ((x y : X) → p x y ≡ true → q x y ≡ true)
     → (seen_word xs : List X) → repeated_from q seen_word xs ≡ None
     → repeated_from p seen_word xs ≡ None
@@ -78,8 +77,6 @@ repeated_weaker {X} p q h seen_word (x ∷ xs) e =
         ap (λ b. cond b (Some x) (repeated_from p (seen_word ++ x ∷ []) xs))
         (any_weaker (λ s. p s x) (λ s. q s x) (λ s. h s x) seen_word eb) ∙ rest k
 
--- if no two marked words have the same pin when pins are compared by place, no two words have the
--- same pin when pins are compared by name
 pub differ_by_place : (parts : List Part) (inerts : List (List ℕ)) (words : List NetWord)
     (marked : List Marked) → marked ≡ map (mark_word parts (pin_places parts) inerts) words
     → first_repeated are_one marked ≡ None → first_repeated have_same_pin words ≡ None
@@ -105,8 +102,8 @@ differ_seen words i whole same =
     map_none (λ (m : Marked). m) (first_repeated are_one (map seen_word words))
     (repeated-map seen_word are_one (λ (m : Marked). m) words ∙ ap (option_map seen_word) none)
 
--- if no two marked words have the same pin, every word counts, and the rule on pins in two nets
--- finds no fault
+-- if no two marked words have the same pin, `standing_words` leaves out no word, and the rule on
+-- pins in two nets finds no fault
 pub all_stand_apart : (chain : List ChainLine) (parts : List Part) (nets : List NetLine)
     (marked : List Marked)
     → marked

@@ -14,7 +14,7 @@ use Rattle.board_build.specs.inner.Marked.{Marked, seen_word, same_pins, marked_
 use Rattle.board_lines.proofs.MapLemmas.{find-map, once-map, repeated-map}
 use Rattle.board_lines.proofs.DifferLemmas.{same_lent}
 
--- the pin of a word, and the word's place in the net file
+-- the pin of a word, and the line and number of the word
 abbrev pub by_pin : MarkedWord → (Bor (List ℕ) × Bor (List ℕ)) × Spot
 by_pin w = ((w.part, w.pin), w.spot)
 

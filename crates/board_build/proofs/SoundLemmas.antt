@@ -18,8 +18,6 @@ use Rattle.board_build.specs.inner.Selected.{ChainWithParts, IsSelected}
 use Rattle.board_build.proofs.MarkLemmas.{board_same, fault_same, answer_same, twice_same}
 use Rattle.board_build.proofs.LawLemmas.{is_board}
 
--- if the chain is selected and no rule finds a fault, the board of the marked words keeps the rules
--- of a board
 pub sound_by : (chain : ChainWithParts) (nets : List NetLine) (names : List (List ℕ)) (words : List Marked) → IsSelected chain →
     names ≡ net_names nets
     → words
@@ -53,7 +51,6 @@ no_twice : (words : List NetWord) → first_repeated have_same_pin words ≡ Non
 unfolding pin_twice
 no_twice words e = ap (option_map (λ (w : NetWord). PinTwice (spot_of w))) e
 
--- if no two words name the same pin, the rule on pins in two nets finds no fault
 pub twice_none : (chain : List ChainLine) (parts : List Part) (words : List NetWord) → first_repeated have_same_pin words ≡ None →
     marked_twice (map (mark_word parts (pin_places parts) (names_of (named Inert chain))) words) ≡ None
 twice_none chain parts words e = twice_same chain parts [] words ∙ no_twice words e

@@ -40,13 +40,13 @@ pin_limit words = if nat_lt most_pins (length (once have_same_pin words)) then S
 abbrev pub is_unknown : List (List ℕ) → List PinPlace → Pin → Bool
 is_unknown described places pin = is_among described pin.0 && is_none (place_of_pin places pin)
 
--- the fault of the first word that names a pin of a described part that is not in the part's pin
--- map
+-- the fault of the first word that names an unknown pin: a pin that the pin map of its described
+-- part does not have
 unfoldable pub no_pin : List (List ℕ) → List PinPlace → List NetWord → Option BoardFault
 no_pin described places words = option_map (λ word. NoPin (spot_of word)) (find (λ word. is_unknown described places (word_pin word)) words)
 
--- the fault of the first word whose pin an earlier word names; the words that count name different
--- pins of a net, so the earlier word is in another net
+-- the fault of the first word whose pin an earlier word names; `standing_words` has no pin of a net
+-- twice, so the earlier word is in another net
 unfoldable pub pin_twice : List NetWord → Option BoardFault
 pin_twice words = option_map (λ word. PinTwice (spot_of word)) (first_repeated have_same_pin words)
 
@@ -87,7 +87,7 @@ pin_fault parts words = no_pin (described_names parts) (pin_places parts) words 
 unfoldable pub driver_fault : RawBoard → List NetWord → Option BoardFault
 driver_fault board drivers = guarded_driver board drivers then two_always_on drivers
 
--- the first fault of the files, by the rules in their order
+-- the first fault of the files; the rules are checked in this order
 unfoldable pub board_fault : List ChainLine → List NetLine → List Part → Option BoardFault
 board_fault chain nets parts =
     limit_fault parts (net_names nets) (standing_words nets)

@@ -21,11 +21,10 @@ use std::alloc::{AllocError, Global};
 
 /// Returns the board that the files and the devices denote, or the fault of the first rule that the
 /// files break. The rules are checked in this order: Limit 2 to 4, NoPin, PinTwice, InertInChain,
-/// NoSupplyNet, NoPullNet, PullTwice, GuardedDriver and TwoAlwaysOn. `devices` has a device for
-/// each DEVICE line, in order.
+/// NoSupplyNet, NoPullNet, PullTwice, GuardedDriver and TwoAlwaysOn.
 ///
-/// `select` must have accepted the chain. LINK lines are ignored: a board with series parts is
-/// built from its joined files.
+/// `select` must have accepted the chain, and `devices` must have a device for each DEVICE line, in
+/// order. LINK lines are ignored: a board with series parts is built from its joined files.
 pub fn board(
     alloc: Global,
     chain: &ChainFile,
@@ -42,7 +41,8 @@ pub fn board(
     board_of(alloc, SelectedChain::of(lines, parts), nets.lines())
 }
 
-/// Returns the parts of a selected chain, in order. `devices` has a device for each DEVICE line, in order.
+/// Returns the parts of the chain, in order. `devices` must have a device for each DEVICE line, in
+/// order.
 pub fn parts_of_chain(
     alloc: Global,
     chain: &ChainFile,
@@ -59,8 +59,8 @@ pub fn parts_of_chain(
     Ok(parts)
 }
 
-/// Returns the board of the chain and these lines. If the chain and these lines break rules,
-/// returns the fault of the first rule that is broken.
+/// Returns the board of the chain and these net lines, or the fault of the first rule that they
+/// break. There must be fewer than 2^32 lines, and each line must have fewer than 2^32 words.
 fn board_of(alloc: Global, chain: SelectedChain<'_>, nets: &[NetLine]) -> Result<Board, BoardFault>
     requires { IsNetFile nets.now }
     ensures { Gives board_told (λ board. board)

@@ -1,5 +1,5 @@
-// The port bits that have an always-on driver. Each part has a flag for each port bit, so a look-up
-// of a pin does not search the cells.
+// Always-on drivers: port bits that a cell without a control drives. Each part has a flag for each
+// port bit, so a look-up of a pin does not search the cells.
 ghost use Rattle.std.specs.Prelude.{◌≡◌, ◌∷◌, ℕ, List, length, slice_index_or, false, IfOk};
 ghost use Rattle.board_defs.specs.declared.device.Cell.{Cell};
 ghost use Rattle.board_defs.specs.DeviceRules.{driving_entry};
@@ -10,7 +10,7 @@ use board_defs::{Cell, Device, Part, PartKind, PinAt};
 use std::alloc::{AllocError, Global};
 use std::marker::Model;
 
-/// Handles one entry. If the entry drives a port bit, sets or clears the bit's flag, which says
+/// Sets or clears the flag of the port bit that this entry drives, if it drives one. The flag says
 /// whether the driver is always on.
 fn flag_entry(flags: &mut [bool], cell: Cell)
     ensures { (cells : List Cell) (bits : ℕ) → AreFlags cells bits flags.old
@@ -26,7 +26,7 @@ fn flag_entry(flags: &mut [bool], cell: Cell)
 }
 
 /// Returns a flag for each port bit, which says whether the bit has an always-on driver. If several
-/// entries drive a bit, the first of them counts, so the loop goes from the last entry to the
+/// entries drive a bit, the first of them decides, so the loop goes from the last entry to the
 /// first.
 fn flags_of(alloc: Global, bits: usize, cells: &[Cell]) -> Result<Vec<bool>, AllocError>
     ensures { IfOk result (λ flags. AreFlags cells.now bits flags.items) }
@@ -58,8 +58,8 @@ fn part_flags(alloc: Global, kind: &PartKind) -> Result<Vec<bool>, AllocError>
     }
 }
 
-/// A part, with a flag for each port bit that has an always-on driver. In contracts, the value is
-/// the part.
+/// A part, with a flag for each port bit that says whether the bit has an always-on driver. In
+/// contracts, the value is the part.
 #[derive(Drop)]
 pub struct PartDrivers<'a> {
     part: &'a Part,
@@ -111,7 +111,8 @@ pub fn drivers_of<'a>(alloc: Global, parts: &'a [Part]) -> Result<Vec<PartDriver
     Ok(drivers)
 }
 
-/// Returns whether an always-on driver is at this place of the chain.
+/// Returns whether the port bit at this place of the chain has an always-on driver. Returns false
+/// if there is no place.
 pub fn is_free_at(parts: &[PartDrivers<'_>], at: Option<PinAt>) -> bool
     ensures { result ≡ is_free_at parts.now at }
 {

@@ -1,4 +1,5 @@
-//! Laws of the definitions. Each law is the contract of a function that does nothing.
+//! Laws of the definitions. A law is a property that holds for all files, stated as the contract of
+//! a function that does nothing.
 ghost use Rattle.std.specs.Prelude.{◌≡◌, ◌<◌, ℕ, List, length, All};
 ghost use Rattle.std.specs.List.{AllByRecursion};
 ghost use Rattle.board_defs.specs.declared.board.RawBoard.{RawBoard};
@@ -15,7 +16,7 @@ ghost use Rattle.board_lines.specs.ChainParts.{IsChain};
 ghost use Rattle.board_lines.specs.Names.{named};
 ghost use Rattle.board_lines.specs.Selection.{selection};
 
-/// Each number that the selection returns for a DEVICE line is the number of an entity.
+/// Each number that the selection returns for a DEVICE line is the index of an entity.
 pub fn selected_are_entities()
     ensures { (lines : List ChainLine) (entities : List Entity) (numbers : List ℕ)
         → selection lines entities ≡ Ok numbers → All (λ number. number < length entities) numbers }
@@ -31,8 +32,9 @@ pub fn selected_are_chains()
 {}
 
 /// If the files and the devices denote a board, the board keeps the rules of a board. The chain
-/// must be selected, the lengths of its BYPASS lines must be in range, and there must be a device,
-/// which keeps the rules of a device, for each DEVICE line.
+/// must have 1 to 255 parts with different names, and the lengths on its BYPASS lines must be from
+/// 2 to 255 bits. There must be a device for each DEVICE line, and each device must keep the rules
+/// of a device.
 pub fn boards_keep_rules()
     ensures { (chain : List ChainLine) (nets : List NetLine) (devices : List RawDevice) (board : RawBoard)
         → IsChain chain → AllByRecursion (λ line. HasBypassLength line.statement) chain → AllByRecursion IsDevice devices → length devices ≡ length (named EntityName chain)

@@ -14,7 +14,8 @@ use board_lines::{Naming, described_names, first_places_of, names_in, pulls_by_n
 use indexmap::IndexMap;
 use std::alloc::{AllocError, Global};
 
-/// Returns a map from each name that has the role `naming` on the lines to its first place among these names.
+/// Returns a map from each name with the role `naming` on the lines to the index of its first
+/// occurrence among these names. There must be fewer than 2^32 lines.
 pub fn names_by_place<'a>(
     alloc: Global,
     lines: &'a [ChainLine],
@@ -30,7 +31,8 @@ pub fn names_by_place<'a>(
     first_places_of(alloc, &names)
 }
 
-/// Returns a map from the name of each described part to its first place among these names.
+/// Returns a map from the name of each described part to the index of its first occurrence among
+/// these names. There must be fewer than 2^32 parts.
 pub fn described_by_place<'a>(
     alloc: Global,
     parts: &'a [Part],

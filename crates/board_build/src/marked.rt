@@ -26,11 +26,12 @@ pub struct MarkedWord<'a> {
     pub spot: Spot,
     /// True if the pin's part is described, that is, has a DEVICE line.
     pub described: bool,
-    /// The place of the pin in the chain, if the pin has one.
+    /// The place of the pin in the chain: the numbers of its part and port bit. None if no port bit
+    /// has the pin.
     pub at: Option<PinAt>,
     /// True if an INERT line names the pin's part.
     pub inert: bool,
-    /// True if the pin is an always-on driver.
+    /// True if the pin is an always-on driver, that is, if a cell without a control drives it.
     pub always_on: bool,
 }
 
@@ -137,8 +138,8 @@ fn mark_all<'a>(
     mark_each(alloc, words, &drivers, places, described, inerts)
 }
 
-/// Returns the words, each with the facts about its pin. `places` has the places of the chain's
-/// pins.
+/// Returns the words, each with the facts about its pin. `places` must have the places of the
+/// chain's pins.
 fn mark_known<'a>(
     alloc: Global,
     chain: &SelectedChain<'_>,

@@ -92,7 +92,8 @@ fn count_pin(counts: &mut [usize], net: usize)
     }
 }
 
-/// Returns the number of words of each net. The counts only determine how much room is reserved.
+/// Returns the number of words of each of the first `count` nets. The counts only determine how
+/// much capacity is reserved.
 fn pin_counts(
     alloc: Global,
     count: usize,
@@ -107,7 +108,7 @@ fn pin_counts(
     Ok(counts)
 }
 
-/// Returns an empty group for each net, with room for as many pins as the net's count says.
+/// Returns an empty group for each net. A group has the capacity that its net's count says.
 fn empty_groups(alloc: Global, counts: &[usize]) -> Result<Vec<Vec<NetPin>>, AllocError>
     ensures count { IfOk result (λ groups. vec_len groups ≡ length counts.now) }
     ensures empty { IfOk result
@@ -120,7 +121,7 @@ fn empty_groups(alloc: Global, counts: &[usize]) -> Result<Vec<Vec<NetPin>>, All
     Ok(groups)
 }
 
-/// Returns the pins of nets `0..count`.
+/// Returns the pins of each of nets `0..count`, in the order of the words.
 fn groups(
     alloc: Global,
     count: usize,
@@ -250,8 +251,8 @@ fn nets_by(
     Ok(nets)
 }
 
-/// Returns the nets with these names, each with the pins of its words. The contract's clause holds
-/// for all lists of supplies and of pulls that agree with the two maps.
+/// Returns the nets with these names, each with the pins of its words. The contract holds for every
+/// list of supply nets and every list of pulls that agree with the two maps.
 fn nets_of(
     alloc: Global,
     names: &[&[u8]],
@@ -289,7 +290,7 @@ fn board_nets(
     nets_of(alloc, names, words, &supplies, &pulls)
 }
 
-/// Returns the board of the chain's parts with the nets of these names and words.
+/// Returns the board with the chain's parts and the nets of these names and words.
 pub fn board_by(
     alloc: Global,
     chain: SelectedChain<'_>,

@@ -20,7 +20,7 @@ use first_places::{first_repeated, once_by};
 use lists::is_set;
 use std::alloc::{AllocError, Global};
 
-/// Returns the number of bits of a data scan of the whole chain.
+/// Returns the number of bits of a data scan of the whole chain. There must be at most 255 parts.
 fn data_bits(parts: &[Part]) -> u64
     requires { length parts.now ≤ most_parts }
     ensures { result ≡ sum_by (λ part. data_length part.kind) parts.now }
@@ -55,7 +55,7 @@ fn net_limit(names: &[&[u8]]) -> Option<BoardFault>
     }
 }
 
-/// Returns the pin that each word names, with the place of the word in the net file.
+/// Returns the pin that each word names, with the line and number of the word.
 fn by_pin<'a>(
     alloc: Global,
     words: &[MarkedWord<'a>],
@@ -118,7 +118,7 @@ fn unknown_pin(words: &[MarkedWord<'_>]) -> Option<BoardFault>
 fn marked_limit(alloc: Global, words: &[MarkedWord<'_>]) -> Result<Option<BoardFault>, AllocError>
     ensures { IfOk result (λ fault. fault ≡ marked_limit (map seen_word words.now)) }
 {
-    // No more than `MOST_PINS` words cannot name too many pins.
+    // At most `MOST_PINS` words name at most `MOST_PINS` pins.
     if words.len() <= MOST_PINS {
         return Ok(None);
     }
@@ -142,7 +142,8 @@ fn marked_twice(alloc: Global, words: &StandingWords<'_>) -> Result<Option<Board
     pin_twice(alloc, &pins)
 }
 
-/// Returns the first fault of the words' pins, by the rules in their order.
+/// Returns the first fault of the words' pins. The rules are checked in the order Limit 4, NoPin,
+/// PinTwice.
 #[tactic(auto, unfolding(crate::specs::inner::Marked::marked_pins))]
 fn pin_fault(alloc: Global, words: &StandingWords<'_>) -> Result<Option<BoardFault>, AllocError>
     ensures { IfOk result (λ fault. fault ≡ marked_pins words.now) }
@@ -156,7 +157,8 @@ fn pin_fault(alloc: Global, words: &StandingWords<'_>) -> Result<Option<BoardFau
     marked_twice(alloc, words)
 }
 
-/// Returns the first fault of the rules that come before the rules on always-on drivers.
+/// Returns the first fault that the rules before GuardedDriver and TwoAlwaysOn find. There must be
+/// fewer than 2^32 names.
 #[tactic(auto, unfolding(crate::specs::inner::Marked::file_fault))]
 pub fn file_fault(
     alloc: Global,
@@ -187,7 +189,8 @@ fn any_test_pin(board: &RawBoard, pins: &[NetPin]) -> bool
     pins.iter().any(|pin| board.is_test_pin(pin))
 }
 
-/// Returns whether the net must not have an always-on driver.
+/// Returns whether the net must not have an always-on driver, since it is a supply net or has a TAP
+/// or compliance pin.
 fn is_kept(board: &RawBoard, net: &Net) -> bool
     ensures { result ≡ is_kept board.now (Some net.now) }
 {
@@ -285,7 +288,8 @@ fn marked_two(alloc: Global, drivers: &[MarkedWord<'_>]) -> Result<Option<BoardF
     two_always_on(alloc, &nets)
 }
 
-/// Returns the first fault of the always-on drivers, by the rules in their order.
+/// Returns the first fault of the always-on drivers. The rule GuardedDriver is checked before
+/// TwoAlwaysOn.
 #[tactic(auto, unfolding(crate::specs::inner::Marked::marked_drivers))]
 pub fn driver_fault(
     alloc: Global,

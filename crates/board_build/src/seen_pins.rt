@@ -1,5 +1,5 @@
-// The test whether the words of a net file name different pins. It finds pins with a place in the
-// chain by a flag for each port bit, without comparing names.
+// Tests whether the words of a net file name different pins. A flag for each port bit shows which
+// pins with a place in the chain were named, so their names are not compared.
 ghost use Rattle.std.specs.Prelude.{◌≡◌, ℕ, true, false, [], replicate, length, map, slice_index_or, None, IfOk, OnOk};
 ghost use Rattle.first_places.specs.Places.{first_repeated};
 ghost use Rattle.board_lines.specs.PinRows.{pins_of_part};
@@ -69,7 +69,8 @@ fn unset_rows(alloc: Global, parts: &[Part]) -> Result<Vec<BitFlags>, AllocError
     Ok(rows)
 }
 
-/// Sets the flag of a place. Returns true only if the flag exists and was not set before.
+/// Sets the flag of the port bit at this place. Returns true only if the flag exists and was not
+/// set before.
 fn set_first_at(rows: &mut [BitFlags], at: PinAt) -> bool
     ensures free { result ≡ true → is_flagged rows.old at ≡ false }
     ensures set { result ≡ true → is_flagged rows.new at ≡ true }

@@ -1,4 +1,4 @@
-// A selected chain with its parts.
+// A chain that `select` accepted, with its parts.
 ghost use Rattle.std.specs.Prelude.{◌≡◌, ◌≢◌, ◌<◌, ◌≤◌, ◌^◌, All, AllPairs, length, map};
 ghost use Rattle.board_defs.specs.Limits.{most_parts};
 ghost use Rattle.board_defs.specs.BoardRules.{IsPart};
@@ -11,7 +11,7 @@ use board_defs::Part;
 use board_files::ChainLine;
 use std::marker::Model;
 
-/// The lines of a selected chain, and the parts of the chain.
+/// The lines and the parts of a chain that `select` accepted.
 #[derive(Drop)]
 pub struct SelectedChain<'a> {
     lines: &'a [ChainLine],
@@ -29,7 +29,9 @@ impl<'a> Model for SelectedChain<'a> {
 }
 
 impl<'a> SelectedChain<'a> {
-    /// Returns the chain of these lines and parts. The parts must be in the order of the chain.
+    /// Returns the chain of these lines and parts. There must be fewer than 2^32 lines, and
+    /// `select` must have accepted them. The parts must have the names on the DEVICE and BYPASS
+    /// lines, in order, and must keep the rules of a part.
     pub fn of(lines: &'a [ChainLine], parts: Vec<Part>) -> SelectedChain<'a>
         requires few { length lines.now < 2 ^ 32 }
         requires selected { IsChain lines.now }

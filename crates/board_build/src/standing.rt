@@ -1,4 +1,4 @@
-// The words of a net file that count, with facts about the pins that they name.
+// The words of a net file without those that repeat a pin of their net, with facts about the pins.
 ghost use Rattle.std.specs.Prelude.{◌≡◌, All, map, true, None, IfOk};
 ghost use Rattle.board_lines.specs.Names.{named, names_of};
 ghost use Rattle.board_lines.specs.declared.names.Naming.TheVariants.{Inert};
@@ -15,7 +15,8 @@ use board_lines::{net_words, once_words};
 use std::alloc::{AllocError, Global};
 use std::marker::Model;
 
-/// The words of a net file that count, in order. If several words of a net name the same pin, only the first of them counts.
+/// The standing words of a net file, in order. A word is standing if no earlier word of the same
+/// net names the same pin.
 #[derive(Drop)]
 pub struct StandingWords<'a> {
     words: Vec<MarkedWord<'a>>,
@@ -50,10 +51,11 @@ impl<'a> StandingWords<'a> {
     }
 }
 
-/// Returns the words that count: each word whose pin no earlier word of the same net names.
+/// Returns the standing words of these net lines, each with facts about its pin. `numbers` must
+/// have the number of each line's net, and each line must have fewer than 2^32 words.
 ///
-/// If no two words name the same pin, as on most boards, every word counts, and no two words need
-/// to be compared.
+/// If no two words name the same pin, as on most boards, every word is standing, and no two words
+/// need to be compared.
 pub fn standing_words<'a>(
     alloc: Global,
     chain: &SelectedChain<'_>,

@@ -1,4 +1,4 @@
--- The words of a net file as the code keeps them, with facts about the pins that they name.
+-- Marked words: the words of a net file, each with facts about the pin that it names.
 use Rattle.std.specs.Prelude.{◌≡◌, ℕ, ◌+◌, ◌<◌, ◌==◌, Bool, false, ◌&&◌, ◌||◌, List, [], ◌∷◌, ◌++◌, length, map, filter, find, nat_lt, slice_get, slice_index_or, slice_set, Option, Some, None, Result, option_and_then, option_map, is_none, is_some, if◌then◌else◌}
 use Rattle.std.proofs.Common.{Bor}
 use Rattle.std.specs.Option.{option_to_list}
@@ -47,7 +47,7 @@ pub record AreFlags (cells : List Cell) (bits : ℕ) (flags : List Bool) : Type 
 abbrev pub device_of_part : List Part → ℕ → Option RawDevice
 device_of_part parts n = option_and_then (λ part. described part.kind) (slice_get parts n)
 
--- an always-on driver is at this place of the chain
+-- the port bit at this place of the chain has an always-on driver
 abbrev pub is_free_at : List Part → Option PinAt → Bool
 is_free_at parts None = false
 is_free_at parts (Some at) = is_free_bit (device_of_part parts at.part) at.bit
@@ -80,8 +80,8 @@ seen_word m = record {
   always_on = m.always_on;
 }
 
--- the marked word for a borrowed word; the given functions look up the facts about the word's pin,
--- and a part is described if one of its pins has a place
+-- the marked word for a borrowed word; the given functions look up the facts about the word's pin;
+-- a pin that has a place belongs to a described part
 abbrev pub mark_by : List Part → (Bor (List ℕ) → Bool)
     → (Bor (List ℕ) × Bor (List ℕ) → Option PinAt) → (Bor (List ℕ) → Bool)
     → (ℕ × (Bor (List ℕ) × Bor (List ℕ))) × Spot → MarkedWord
@@ -115,8 +115,8 @@ pin_with m = record { part = (word_pin m.word).0; pin = (word_pin m.word).1; at 
 abbrev pub marked_group : List Marked → ℕ → List NetPin
 marked_group words n = map pin_with (filter (λ m. marked_net m == n) words)
 
--- appends the pin of the word to the group of the word's net, if there is a word and there is a
--- group for its net
+-- the groups after the pin of the word is appended to the group of the word's net; the groups stay
+-- the same if there is no word or no such group
 abbrev pub groups_after : Option MarkedWord → ℕ → List (List NetPin) → List (List NetPin)
 groups_after None count groups = groups
 groups_after (Some word) count groups =
@@ -124,12 +124,12 @@ groups_after (Some word) count groups =
     then slice_set groups word.net
     (slice_index_or groups word.net [] ++ pin_with (seen_word word) ∷ []) else groups
 
--- appends the net with this name and this group, or leaves the nets unchanged if the name or the group is missing
+-- the nets, followed by the net with this name and this group if there is a name and a group
 abbrev pub nets_after : {A G N : Type 0} → (A × G → N) → Option A → Option G → List N → List N
 nets_after f None group nets = nets
 nets_after f (Some name) group nets = nets ++ option_to_list (option_map (λ g. f (name, g)) group)
 
--- appends the mark of the word, or leaves the marks unchanged if there is no word
+-- the marks, followed by the mark of the word if there is a word
 abbrev pub marks_after : {A N : Type 0} → (A → N) → Option A → List N → List N
 marks_after f None marks = marks
 marks_after f (Some word) marks = marks ++ f word ∷ []
@@ -149,7 +149,7 @@ abbrev pub nets_with : List (List ℕ) → List Pulled → List Marked → ℕ �
 nets_with supplies pulls words n [] = []
 nets_with supplies pulls words n (name ∷ names) = net_with supplies pulls words n name ∷ nets_with supplies pulls words (n + 1) names
 
--- the board of the marked words
+-- the board whose nets have the pins of the marked words
 abbrev pub board_by : List ChainLine → List Part → List (List ℕ) → List Marked → RawBoard
 board_by chain parts names words = record { chain = parts; nets = nets_with (names_of (named Supply chain)) (pulls_of chain) words 0 names }
 
@@ -163,8 +163,8 @@ same_pins a b = same_pin (pin_in a) (pin_in b)
 unfoldable pub marked_limit : List Marked → Option BoardFault
 marked_limit words = if nat_lt most_pins (length (once same_pins words)) then Some (Limit (limit_number Pins)) else None
 
--- the fault of the first word that names a pin of a described part that is not in the part's pin
--- map
+-- the fault of the first word that names a pin of a described part but has no place, since the
+-- part's pin map does not have the pin
 unfoldable pub marked_unknown : List Marked → Option BoardFault
 marked_unknown words = option_map (λ m. NoPin (marked_spot m)) (find (λ m. m.described && is_none m.at) words)
 

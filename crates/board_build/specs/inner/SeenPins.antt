@@ -1,4 +1,5 @@
--- The test whether two words name the same pin, by the places of the pins.
+-- The test whether two words name the same pin, which compares places and compares names only if
+-- there are no places.
 use Rattle.std.specs.Prelude.{ℕ, ◌==◌, Bool, false, ◌&&◌, List, [], Option, Some, None, slice_index_or}
 use Rattle.std.proofs.Common.{Bor}
 use Rattle.indexmap.specs.IndexSet.{IndexSet, contains}

@@ -1,4 +1,4 @@
--- A selected chain, with its parts.
+-- A chain that the selection accepted, with its parts.
 use Rattle.std.specs.Prelude.{◌≡◌, ◌^◌, ◌<◌, List, length, map, All}
 use Rattle.board_defs.specs.declared.board.Part.{Part}
 use Rattle.board_defs.specs.BoardRules.{IsPart}
@@ -11,8 +11,8 @@ pub record ChainWithParts : Type 0 where
   pub lines : List ChainLine
   pub parts : List Part
 
--- the lines are a selected chain; the parts have the names on the DEVICE and BYPASS lines of the
--- chain, and keep the rules of a part
+-- the chain has fewer than 2^32 lines, and 1 to 255 parts with different names; the parts have the
+-- names on the DEVICE and BYPASS lines, in order, and keep the rules of a part
 pub record IsSelected (chain : ChainWithParts) : Type 0 where
   pub few : length chain.lines < 2 ^ 32
   pub selected : IsChain chain.lines

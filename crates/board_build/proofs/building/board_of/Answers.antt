@@ -1,4 +1,4 @@
--- The words that count in the code are the words that count in the definitions.
+-- The words of the code are the standing words of the definitions.
 use Rattle.std.proofs.Common.{◌≡◌, map, ap, subst, ◌∙◌}
 use Rattle.answers.specs.Gives.{Gives}
 use Rattle.board_lines.specs.Faults.{board_told}

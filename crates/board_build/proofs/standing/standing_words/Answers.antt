@@ -1,4 +1,4 @@
--- If no two words name the same pin, every word counts.
+-- If no two words name the same pin, no word is left out.
 use Rattle.std.proofs.Common.{◌≡◌, map, sym, ap, ◌∙◌}
 use Rattle.first_places.specs.Places.{first_repeated}
 use Rattle.board_lines.specs.declared.names.Naming.TheVariants.{Inert}
