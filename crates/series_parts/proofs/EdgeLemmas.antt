@@ -1,6 +1,6 @@
 -- Lemmas about the graph whose points are the lines of a net file. An edge joins two lines that
 -- have the same name or that a LINK line joins. The label of a line is the first line that is
--- joined with it, and the name on this line is the joined name of the first line's net.
+-- joined with it. The joined name of a line's net is the name on the label.
 use Rattle.std.proofs.Common.{◌≡◌, ℕ, zero, suc, ◌+◌, ◌<◌, ◌≤◌, Bool, true, List, [], ◌∷◌, ◌++◌, length, map, drop, get_or, Option, Some, None, refl, sym, ap, subst, ◌∙◌, arith, true≢false, ◌⊎◌, inl, inr, append_assoc}
 use Rattle.std.specs.Prelude.{All, option_map, unwrap_or}
 use Rattle.std.specs.List.{cons_option, position_from}
@@ -29,8 +29,7 @@ at names i = get_or names i []
 abbrev pub ends : List Word → ℕ × ℕ → Pair
 ends names e = (at names e.0, at names e.1)
 
--- if the edges so far, followed by the edges of the names from line `i` on, are all edges, the same
--- is true from line `i + 1` on after the edge of line `i` is appended
+-- one step of the loop: the edge of line `i` is appended
 pub name_edges_step : (all : List Word) (i : ℕ) (name : Word) (first : ℕ) (done whole : Edges)
     → i < length all → name ≡ at all i → first ≡ unwrap_or (name_place all name) i →
     whole ≡ done ++ name_edges all i (drop i all) → whole ≡ (done ++ (i, first) ∷ []) ++ name_edges all (i + 1) (drop (i + 1) all)
@@ -67,8 +66,6 @@ cons_map : {A B : Type 0} (f : A → B) (o : Option A) (xs : List A) → cons_op
 cons_map f None xs = refl
 cons_map f (Some x) xs = refl
 
--- the pairs of nets that LINK lines join are the pairs of names at the ends of the edges of these
--- lines
 pub links_ends : (nets : List NetLine) (chain : List ChainLine) → links nets chain ≡ map (ends (line_names nets)) (link_edges nets chain)
 links_ends nets [] = refl
 links_ends nets (line ∷ chain) =
@@ -172,7 +169,6 @@ is_name_edge names e h =
     ∙ ap (λ m. (m, unwrap_or (name_place names (at names r.0)) m)) (sym here) ∙ sym r.2 in
     subst (IsNameEdge names) is (record { within = (lt, f.within); same = sym f.same })
 
--- each edge joins two lines with the same name, or is the edge of a LINK line
 pub edge_kind : (nets : List NetLine) (chain : List ChainLine) (e : ℕ × ℕ)
     → Has (edges nets chain) e → IsNameEdge (line_names nets) e ⊎ Has (link_edges nets chain) e
 edge_kind nets chain e h = by_part (has_append (name_edges (line_names nets) 0 (line_names nets)) (link_edges nets chain) e h)
@@ -198,11 +194,9 @@ all_edges_within nets chain count same k d lt =
     (has_at (edges nets chain) k (get_or (edges nets chain) k d)
     (slice_get-get_or (edges nets chain) k d lt)))
 
--- the two ends of an edge have the same label
 label_edge : (es : Edges) (labels : List ℕ) → AreLabels es labels → (e : ℕ × ℕ) → Has es e → get_or labels e.0 0 ≡ get_or labels e.1 0
 label_edge es labels h e has = let r = has_place es e has in h.ends r.0 e.0 e.1 r.1
 
--- lines with the same name have the same label
 label_name : (nets : List NetLine) (chain : List ChainLine) (labels : List ℕ)
     → AreLabels (edges nets chain) labels → (i j : ℕ) → i < length (line_names nets)
     → j < length (line_names nets) →
@@ -227,8 +221,8 @@ Labelled n labels es = (e : ℕ × ℕ) → Has es e → IsWithin n e × (get_or
 abbrev OneLabel : List Word → List ℕ → Type 0
 OneLabel names labels = (i j : ℕ) → i < length names → j < length names → at names i ≡ at names j → get_or labels i 0 ≡ get_or labels j 0
 
--- for these edges, `lead_labels` holds: if links lead from net `u` to net `v`, the lines of the two
--- nets have the same label
+-- the claim that the induction proves for these edges: if links lead from net `u` to net `v`, the
+-- lines of the two nets have the same label
 abbrev Rest : List Word → List ℕ → Edges → Type 0
 Rest names labels es =
     (u v : Word) → leads (map (ends names) es) u v ≡ true → (k l : ℕ) → k < length names
@@ -244,8 +238,7 @@ lead_way names labels e es x y inside edge rest (forth q r) i j within_i within_
 lead_way names labels e es x y inside edge rest (back q r) i j within_i within_j is_x is_y =
     rest x (at names e.1) q i e.1 within_i inside.1 is_x refl ∙ sym edge ∙ rest (at names e.0) y r e.0 j inside.0 within_j refl is_y
 
--- if lines with the same name have the same label, as do the two ends of each edge, and links lead
--- from net `x` to net `y`, the lines of the two nets have the same label
+-- if links lead from net `x` to net `y`, the lines of the two nets have the same label
 lead_labels : (names : List Word) (labels : List ℕ) (es : Edges) (x y : Word)
     → OneLabel names labels → Labelled (length names) labels es
     → leads (map (ends names) es) x y ≡ true →
@@ -290,7 +283,6 @@ joined_leads nets chain x y (against {b = d} k e p) =
         leads_back (links nets chain) (at (line_names nets) x) (at (line_names nets) d)
         (at (line_names nets) y) (has_link nets chain (d, x) h) q
 
--- if links lead from the net of one line to the net of another, the two lines have the same label
 labels_agree : (nets : List NetLine) (chain : List ChainLine) (labels : List ℕ)
     → AreLabels (edges nets chain) labels → (k i : ℕ) → k < length (line_names nets)
     → i < length (line_names nets) →
@@ -307,7 +299,7 @@ labels_agree nets chain labels h k i within_k within_i p =
     (ap (λ ps. leads ps (at (line_names nets) k) (at (line_names nets) i))
     (sym (links_ends nets chain)) ∙ p) k i within_k within_i refl refl
 
--- the joined name of line `k`'s net is the name on the line that is the label of line `k`
+-- the label of line `k` is a line, and the name on it is the joined name of line `k`'s net
 pub least_name : (nets : List NetLine) (chain : List ChainLine) (labels : List ℕ)
     → AreLabels (edges nets chain) labels → length labels ≡ length (line_names nets) → (k : ℕ)
     → k < length (line_names nets) →
@@ -337,8 +329,6 @@ same_maps f g (x ∷ xs) (y ∷ ys) d e count same =
     ∙ ap (λ zs. g y ∷ zs)
     (same_maps f g xs ys d e (omega arith) (λ k lt. same (suc k) (omega arith)))
 
--- the names on the lines that are the labels are, in order, the joined names of the nets of all
--- lines
 pub least_names : (nets : List NetLine) (chain : List ChainLine) (labels : List ℕ)
     → AreLabels (edges nets chain) labels → length labels ≡ length (line_names nets) →
     map (at (line_names nets)) labels ≡ map (joined_name (links nets chain) (line_names nets)) (line_names nets)
@@ -365,7 +355,7 @@ absent names (e ∷ es) x y none within p =
     (λ v q. absent names es x v none (λ d has. within d (inr has)) q)
     (way (ends names e) (map (ends names) es) x y p)
 
--- if a net is on no line, its joined name is its own name
+-- a net that is on no line keeps its name
 pub kept_name : (nets : List NetLine) (chain : List ChainLine) (name : Word)
     → name_place (line_names nets) name ≡ None
     → joined_name (links nets chain) (line_names nets) name ≡ name
@@ -398,16 +388,15 @@ renames_by nets chain least name is (Some m) e =
     ap (λ l. get_or l m name) is ∙ get_or-map f names m [] name inside
     ∙ ap (λ i. f (at names i)) same ∙ ap f (same_is (at names r.0) name r.2.passes)
 
--- if `least` has the joined names of the nets of all lines, in order, `renamed` gives the joined
--- name of every net
+-- `renamed` looks up the net's first line, so it gives the joined name of every net, on a line or
+-- not
 pub renames : (nets : List NetLine) (chain : List ChainLine) (least : List Word) (name : Word)
     → least ≡ map (joined_name (links nets chain) (line_names nets)) (line_names nets) →
     renamed (line_names nets) least name ≡ joined_name (links nets chain) (line_names nets) name
 unfolding renamed
 renames nets chain least name is = renames_by nets chain least name is (name_place (line_names nets) name) refl
 
--- if `least` has the names on the lines that are the labels, in order, `renamed` gives the joined
--- name of every net
+-- like `renames`, but `least` has the names on the lines that are the labels
 pub new_names : (nets : List NetLine) (chain : List ChainLine) (names : List Word) (es : Edges)
     (labels : List ℕ) (least : List Word) → names ≡ line_names nets → es ≡ edges nets chain
     → AreLabels es labels → length labels ≡ length names →

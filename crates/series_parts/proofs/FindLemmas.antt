@@ -1,9 +1,10 @@
--- Lemmas about the first place whose item passes a test, and about the first such item.
+-- Lemmas about the first index at which a list has an item that passes a test, and about the first
+-- such item.
 use Rattle.std.proofs.Common.{◌≡◌, ℕ, zero, suc, ◌+◌, ◌<◌, Bool, true, false, cond, List, [], ◌∷◌, length, map, get_or, Option, Some, None, refl, sym, ap, ◌∙◌, arith, true≢false}
 use Rattle.std.specs.Prelude.{find, option_map, is_none}
 use Rattle.std.specs.List.{position_from}
 
--- the place is within the list, and its item passes the test
+-- the item at index `place` passes the test
 pub record Found {A : Type 0} (p : A → Bool) (xs : List A) (d : A) (place : ℕ) : Type 0 where
   pub within : place < length xs
   pub passes : p (get_or xs place d) ≡ true
@@ -11,7 +12,7 @@ pub record Found {A : Type 0} (p : A → Bool) (xs : List A) (d : A) (place : �
 found_later : {A : Type 0} (p : A → Bool) (x : A) (xs : List A) (d : A) (i : ℕ) → Found p xs d i → Found p (x ∷ xs) d (suc i)
 found_later p x xs d i f = let low : i < length xs = f.within in record { within = omega arith; passes = f.passes }
 
--- `m` is the number of a place whose item passes the test, if places are numbered from `n` on
+-- `m` is the number of an item that passes the test, if items are numbered from `n` on
 abbrev pub Place : {A : Type 0} → (A → Bool) → ℕ → List A → A → ℕ → Type 0
 Place p n xs d m = (i : ℕ) × (m ≡ n + i) × Found p xs d i
 
@@ -21,7 +22,6 @@ place_by : {A : Type 0} (p : A → Bool) (n m : ℕ) (x : A) (xs : List A) (d : 
 place_by p n m x xs d true e ih h = let same : n ≡ m = cc h in (0, omega arith, record { within = omega arith; passes = e })
 place_by p n m x xs d false e ih h = let r = ih h in let at : m ≡ n + 1 + r.0 = r.1 in (suc r.0, omega arith, found_later p x xs d r.0 r.2)
 
--- if a search returns a place, its item passes the test
 pub place_found : {A : Type 0} (p : A → Bool) (n : ℕ) (xs : List A) (d : A) (m : ℕ) → position_from p n xs ≡ Some m → Place p n xs d m
 place_found p n [] d m h = cc h
 place_found p n (x ∷ xs) d m h = place_by p n m x xs d (p x) refl (place_found p (n + 1) xs d m) h
@@ -32,7 +32,6 @@ none_by : {A : Type 0} (p : A → Bool) (n : ℕ) (x : A) (xs : List A) → (t :
 none_by p n x xs true e h = cc h
 none_by p n x xs false e h = (e, h)
 
--- if a search returns no place, no item passes the test
 pub place_none : {A : Type 0} (p : A → Bool) (n : ℕ) (xs : List A) (d : A) (k : ℕ)
     → position_from p n xs ≡ None → k < length xs → p (get_or xs k d) ≡ false
 place_none p n [] d k h lt = absurd (omega arith)
@@ -52,12 +51,10 @@ some_place p xs d k lt passes (Some m) e =
     ap-lt : (a b n : ℕ) → a ≡ b → a < n → b < n
     ap-lt a b n e lt = omega arith
 
--- if some item passes the test, the search returns a place, and its item passes
 pub place_of_item : {A : Type 0} (p : A → Bool) (xs : List A) (d : A) (k : ℕ) → k < length xs
     → p (get_or xs k d) ≡ true → (m : ℕ) × (position_from p 0 xs ≡ Some m) × Found p xs d m
 place_of_item p xs d k lt passes = some_place p xs d k lt passes (position_from p 0 xs) refl
 
--- if item `j` passes and no earlier item does, `find` returns item `j`
 pub find_first : {A : Type 0} (p : A → Bool) (xs : List A) (d : A) (j : ℕ) → j < length xs
     → p (get_or xs j d) ≡ true → ((i : ℕ) → i < j → p (get_or xs i d) ≡ false)
     → find p xs ≡ Some (get_or xs j d)
@@ -98,7 +95,7 @@ find_by f p x xs d false ih =
     ih ∙ sym (map_twice (λ k. suc k) (λ i. get_or (f x ∷ map f xs) i d) (position_from p 0 xs))
     ∙ ap (option_map (λ i. get_or (f x ∷ map f xs) i d)) (sym (shifted p 0 xs))
 
--- the item that `find` returns is the item at the place that the search returns
+-- `find` returns the item at the index that `position_from` returns
 pub find_place : {A B : Type 0} (f : A → B) (p : A → Bool) (xs : List A) (d : B)
     → option_map f (find p xs) ≡ option_map (λ i. get_or (map f xs) i d) (position_from p 0 xs)
 find_place f p [] d = refl
@@ -108,7 +105,6 @@ none_map : {A B : Type 0} (f : A → B) (o : Option A) → is_none (option_map f
 none_map f None = refl
 none_map f (Some a) = refl
 
--- `find` returns no item if and only if the search returns no place
 pub none_found : {A B : Type 0} (f : A → B) (p : A → Bool) (xs : List A) (d : B)
     → is_none (option_map f (find p xs)) ≡ is_none (position_from p 0 xs)
 none_found f p xs d = ap is_none (find_place f p xs d) ∙ none_map (λ i. get_or (map f xs) i d) (position_from p 0 xs)

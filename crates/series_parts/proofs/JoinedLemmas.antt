@@ -29,7 +29,6 @@ min_is : (a b : ℕ) → (min a b ≡ a) ⊎ (min a b ≡ a → ⊥) → (min a 
 min_is a b (inl e) = inl e
 min_is a b (inr ne) = inr (omega arith)
 
--- if a point is joined with two points, it is joined with the lower of them
 joined_min : (edges : Edges) (x a b : ℕ) → Joined edges x a → Joined edges x b → (min a b ≡ a) ⊎ (min a b ≡ b) → Joined edges x (min a b)
 joined_min edges x a b p q (inl e) = subst (λ (y : ℕ). Joined edges x y) (sym e) p
 joined_min edges x a b p q (inr e) = subst (λ (y : ℕ). Joined edges x y) (sym e) q
@@ -63,8 +62,7 @@ ends_more edges i a b k c d label edge old lt e (inl same) =
     ∙ sym (lowered_at (label a) (label b) (label b) (inr refl)) ∙ ap (merged label a b) (sym db)
 ends_more edges i a b k c d label edge old lt e (inr ne) = ap (lowered (label a) (label b)) (old k c d (omega arith) e)
 
--- if the labels reflect the first `i` edges, and edge `i` joins `a` and `b`, the labels after the
--- labels of `a` and `b` are merged reflect the first `i + 1` edges
+-- one step of the loop: edge `i` joins `a` and `b`, so their labels are merged
 pub reflects_more : (edges : Edges) (i a b : ℕ) (old new : List ℕ) (label : ℕ → ℕ)
     → slice_get edges i ≡ Some (a, b) → Reflects edges i old label
     → IsLabelling new (merged label a b) → Reflects edges (i + 1) new (merged label a b)
@@ -79,8 +77,7 @@ reflects_more edges i a b old new label edge h labelling =
       ends = λ k c d lt e. ends_more edges i a b k c d label edge h.ends lt e (cases_eq k i);
     }
 
--- if each point is its own parent, the labelling that makes each point its own label reflects no
--- edge
+-- before the first edge, each point is its own label
 pub reflects_none : (edges : Edges) (parents : List ℕ)
     → ((x : ℕ) → x < length parents → get_or parents x 0 ≡ x) → Reflects edges 0 parents (λ x. x)
 reflects_none edges parents own = record {
@@ -94,8 +91,7 @@ reflects_none edges parents own = record {
   ends = λ k a b lt e. absurd (omega arith);
 }
 
--- if a labelling reflects all edges, and the list has its value for each point, the list has the
--- labels of the points
+-- if a labelling reflects all edges, the list of its values has the labels of the points
 pub labels_read : (edges : Edges) (parents labels : List ℕ) (label : ℕ → ℕ)
     → ((k a b : ℕ) → slice_get edges k ≡ Some (a, b) → (a < length labels) × (b < length labels)) →
     ((x : ℕ) → x < length labels → get_or labels x 0 ≡ label x) → Reflects edges (length edges) parents label → AreLabels edges labels
@@ -112,8 +108,7 @@ pushed_at xs r n x label count old new lt (inl e) = get_or_push xs r 0 x (count 
 pushed_at xs r n x label count old new lt (inr ne) =
     let low : x < n = omega arith in get_or_append_left xs (r ∷ []) 0 x (omega arith) ∙ old x low
 
--- if item `y` of a list is the label of `y`, for each `y` below `n`, and the label of `n` is
--- appended, the same is true for each `y` below `n + 1`
+-- one step of the loop: the label of `n` is appended
 pub pushed : (xs : List ℕ) (r n : ℕ) (label : ℕ → ℕ) → length xs ≡ n
     → ((y : ℕ) → y < n → get_or xs y 0 ≡ label y) → r ≡ label n → (x : ℕ) → x < n + 1
     → get_or (xs ++ r ∷ []) x 0 ≡ label x
@@ -123,8 +118,6 @@ pub if_ok_both : {V E : Type 0} (P Q R : V → Type 0) → ((v : V) → P v → 
 if_ok_both P Q R f (Ok v) p q = f v p q
 if_ok_both P Q R f (Err e) p q = tt
 
--- if the ends of each edge are below `count`, the ends of edge `k` are below `n`, which is equal to
--- `count`
 pub ends_within : (edges : Edges) (n count : ℕ) → count ≡ n
     → All (λ e. (e.0 < count) × (e.1 < count)) edges → (k a b : ℕ) → slice_get edges k ≡ Some (a, b)
     → (a < n) × (b < n)

@@ -54,7 +54,6 @@ leads_by link links a b (back e f) =
     (leads links a link.1 && leads links link.0 b)
     (and_from (leads links a link.1) (leads links link.0 b) e f))
 
--- links lead from each net to itself
 pub leads_self : (links : List Pair) (a : Word) → leads links a a ≡ true
 leads_self [] a = same_self a
 leads_self (link ∷ links) a = leads_by link links a a (without (leads_self links a))
@@ -80,7 +79,6 @@ on link links a b c step (without q) = without (step c q)
 on link links a b c step (forth q r) = forth (step link.0 q) r
 on link links a b c step (back q r) = back (step link.1 q) r
 
--- if `(a, b)` is a link and links lead from `b` to `c`, links lead from `a` to `c`
 pub leads_forth : (links : List Pair) (a b c : Word) → Has links (a, b) → leads links b c ≡ true → leads links a c ≡ true
 leads_forth [] a b c h p = absurd h
 leads_forth (link ∷ links) a b c (inl e) p = leads_by link links a c (forth_here link links a b c e (way link links b c p))
@@ -88,7 +86,6 @@ leads_forth (link ∷ links) a b c (inr h) p =
     leads_by link links a c
     (on link links a b c (λ d q. leads_forth links a b d h q) (way link links b c p))
 
--- if `(b, a)` is a link and links lead from `b` to `c`, links lead from `a` to `c`
 pub leads_back : (links : List Pair) (a b c : Word) → Has links (b, a) → leads links b c ≡ true → leads links a c ≡ true
 leads_back [] a b c h p = absurd h
 leads_back (link ∷ links) a b c (inl e) p = leads_by link links a c (back_here link links a b c e (way link links b c p))

@@ -1,4 +1,4 @@
--- Properties of the lines that joining does not change.
+-- Joining keeps the DEVICE and BYPASS lines, and leaves files without LINK lines unchanged.
 use Rattle.std.proofs.Common.{◌≡◌, ℕ, false, cond, ◌||◌, List, [], ◌∷◌, map, Option, Some, None, refl, sym, ap, ◌∙◌}
 use Rattle.std.specs.Prelude.{find, Ok, unwrap_or}
 use Rattle.std.specs.List.{AllByRecursion, cons_option}
@@ -67,7 +67,6 @@ stays_by : (name : Word) (names : List Word) (o : Option Word) → find (leads [
 stays_by name names None e = refl
 stays_by name names (Some w) e = sym (same_is name w (find_has (leads [] name) names w e).1)
 
--- if there are no links, each net keeps its name
 name_stays : (names : List Word) (name : Word) → joined_name [] names name ≡ name
 unfolding joined_name
 name_stays names name = stays_by name names (find (leads [] name) names) refl
@@ -123,7 +122,6 @@ nets_stay f (line ∷ nets) h =
     ap (λ w. record { line = line.line; name = w; pins = line.pins } ∷ map (joined_net f) nets)
     (h line.name) ∙ ap (λ lines. line ∷ lines) (nets_stay f nets h)
 
--- files without LINK lines are their own joined files
 pub files_stay : (chain : List ChainLine) (nets : List NetLine) → has_link chain ≡ false
     → joined_files chain nets ≡ Ok (record { chain = chain; nets = nets })
 files_stay chain nets none =

@@ -1,5 +1,5 @@
--- The files that `joined_chain` and `joined_nets` return are joined files in the sense of the
--- relation, and there are no others.
+-- The files that `joined_chain` and `joined_nets` return satisfy the relation `AreJoinedFiles`, and
+-- no other files do.
 use Rattle.std.proofs.Common.{◌≡◌, ℕ, zero, suc, ◌<◌, ◌≤◌, Bool, true, false, List, [], ◌∷◌, length, map, get_or, Option, Some, None, refl, sym, ap, subst, ◌∙◌, arith, true≢false, inl, inr}
 use Rattle.std.specs.Prelude.{Contains, slice_get, find, unwrap_or}
 use Rattle.std.proofs.lemmas.Option.{slice_get-get_or, slice_get_within, get_or_from_slice_get, some_pair_parts, none-some}
@@ -25,7 +25,6 @@ joined_trans chain nets a b c itself q = q
 joined_trans chain nets a b c (along {b = d} link p) q = along link (joined_trans chain nets d b c p q)
 joined_trans chain nets a b c (back {b = d} link p) q = back link (joined_trans chain nets d b c p q)
 
--- if a LINK line joins two nets in the sense of the relation, the two nets are a pair in `links`
 has_of_link : (chain : List ChainLine) (nets : List NetLine) (a b : Word) → IsLink chain nets a b → Has (links nets chain) (a, b)
 has_of_link chain nets a b link =
     let line : ChainLine = record { line = link.line; statement = Link link.part link.first link.second } in
@@ -57,7 +56,6 @@ link_of_has chain nets p h =
     let s = has_place chain r.0 r.1 in
     link_at chain nets p.0 p.1 s.0 r.0.line r.0.statement s.1 r.2
 
--- if two nets are joined in the sense of the relation, `leads` is true of them
 pub joined_leads_to : (chain : List ChainLine) (nets : List NetLine) (a b : Word)
     → AreJoined chain nets a b → leads (links nets chain) a b ≡ true
 joined_leads_to chain nets a b itself = leads_self (links nets chain) a
@@ -88,7 +86,7 @@ pub leads_joined : (chain : List ChainLine) (nets : List NetLine) (a b : Word)
     → leads (links nets chain) a b ≡ true → AreJoined chain nets a b
 leads_joined chain nets a b h = joined_by chain nets (links nets chain) (λ p has. link_of_has chain nets p has) a b h
 
--- this place of the list is the first whose item passes the test
+-- `place` is the first index at which an item passes the test `p`
 record Least {A : Type 0} (p : A → Bool) (xs : List A) (d : A) : Type 0 where
   place : ℕ
   within : place < length xs
@@ -120,8 +118,6 @@ le_by zero k f = omega arith
 le_by (suc m) zero f = absurd (f (omega arith))
 le_by (suc m) (suc k) f = let r : m ≤ k = le_by m k (λ lt. f (omega arith)) in omega arith
 
--- if a net is on a line, its joined name is the name of the first net on the lines that is joined
--- with it
 least_joined : (chain : List ChainLine) (nets : List NetLine) (name : Word)
     → Contains (line_names nets) name
     → IsLeastJoined chain nets name (joined_name (links nets chain) (line_names nets) name)
@@ -161,7 +157,6 @@ kept_by : (chain : List ChainLine) (nets : List NetLine) (name : Word)
 kept_by chain nets name none None e = kept_name nets chain name e
 kept_by chain nets name none (Some m) e = absurd (none (contains_found (line_names nets) name m e))
 
--- `renaming` replaces each name as the relation requires
 pub replaced : (chain : List ChainLine) (nets : List NetLine) (name : Word) → IsReplaced chain nets name (renaming chain nets name)
 replaced chain nets name = record {
   there = λ has. least_joined chain nets name has;
@@ -240,8 +235,6 @@ net_once chain nets old new h =
     let name = replaced_once chain nets old.name new.name h.name in
     λ i. record { line = h.line i; name = name i; pins = h.pins i }
 
--- the files that `joined_chain` and `joined_nets` return are joined files of the chain file and the
--- net file
 pub files_joined : (chain : List ChainLine) (nets : List NetLine)
     → AreJoinedFiles chain nets (joined_chain chain nets) (joined_nets chain nets)
 files_joined chain nets = record {
@@ -254,8 +247,6 @@ files_joined chain nets = record {
       (λ line. record { line = refl; pins = refl; name = replaced chain nets line.name }) nets;
 }
 
--- files that are joined files of the chain file and the net file are those that `joined_chain` and
--- `joined_nets` return
 pub files_once : (chain : List ChainLine) (nets : List NetLine) (new_chain : List ChainLine)
     (new_nets : List NetLine) → AreJoinedFiles chain nets new_chain new_nets
     → (new_chain ≡ joined_chain chain nets) × (new_nets ≡ joined_nets chain nets)

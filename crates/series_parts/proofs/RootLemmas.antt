@@ -7,7 +7,7 @@ use Rattle.series_parts.specs.inner.Roots.{IsLabelling, lowered, merged}
 abbrev pub AreLow : List ℕ → Type 0
 AreLow parents = (x : ℕ) → x < length parents → get_or parents x 0 ≤ x
 
--- the item at place `x` of a list after `above` is written at place `at`: `above` if the places are
+-- item `x` of a list after `above` is written at index `at`: it is `above` if `x` and `at` are
 -- equal, and unchanged otherwise
 pub data Written (parents : List ℕ) (at above x : ℕ) : Type 0 where
   there : x ≡ at → get_or (set parents at above) x 0 ≡ above → Written parents at above x
@@ -35,8 +35,8 @@ low-set parents at above within le low x lt =
     low_written parents at above x le (low x (shorter parents at above x lt))
     (written parents at above x within)
 
--- if `above` and `at` have the same label, the parent of `x` still has the label of `x` after
--- `above` becomes the parent of `at`
+-- making `above` the parent of `at`, which has the same label, keeps the rule that a point has the
+-- label of its parent
 parent_written : (parents : List ℕ) (at above x : ℕ) (label : ℕ → ℕ) → label above ≡ label at
     → label (get_or parents x 0) ≡ label x → Written parents at above x
     → label (get_or (set parents at above) x 0) ≡ label x
@@ -66,8 +66,7 @@ pub same_label : (parents : List ℕ) (at parent above : ℕ) (label : ℕ → �
     → IsLabelling parents label → label above ≡ label at
 same_label parents at parent above label within inside p a h = ap label a ∙ h.parent parent inside ∙ ap label p ∙ h.parent at within
 
--- if a point is not its own parent, the labels are still labels after its parent's parent becomes
--- its parent
+-- shortening a path keeps the labels: `above`, the grandparent of `at`, becomes its parent
 pub labels-halved : (parents : List ℕ) (at parent above : ℕ) (label : ℕ → ℕ) → at < length parents
     → parent ≡ get_or parents at 0 → above ≡ get_or parents parent 0 → parent ≢ at
     → IsLabelling parents label → IsLabelling (set parents at above) label

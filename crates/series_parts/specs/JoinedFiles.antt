@@ -54,7 +54,7 @@ pub record IsJoinedNet (chain : List ChainLine) (nets : List NetLine) (old new :
   pub pins : new.pins ≡ old.pins
   pub name : IsReplaced chain nets old.name new.name
 
--- the two lists have the same length, and `R` relates the items at each place
+-- the two lists have the same length, and `R` relates the items at each index
 abbrev pub Each : {A : Type 0} → (A → A → Type 0) → List A → List A → Type 0
 Each R [] [] = Unit {0}
 Each R (x ∷ xs) [] = ⊥

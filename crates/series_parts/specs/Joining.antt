@@ -68,7 +68,7 @@ joined_chain chain nets = map (joined_line (renaming chain nets)) chain
 abbrev pub joined_nets : List ChainLine → List NetLine → List NetLine
 joined_nets chain nets = map (joined_net (renaming chain nets)) nets
 
--- the value if no pin is missing, or otherwise the fault with the place of the missing pin
+-- the value if no pin is missing, or otherwise the fault with the line and word of the missing pin
 abbrev pub unless_missing : {V : Type 0} → Option Spot → V → Result V LinkFault
 unless_missing None value = Ok value
 unless_missing (Some spot) value = Err (NoLinkPin spot)

@@ -16,8 +16,8 @@ None then after = after
 abbrev pub is_missing_pin : List NetLine → Word → Word → Bool
 is_missing_pin nets part pin = is_none (net_of_pin nets part pin)
 
--- the place of the first of the two pins on line `n` that is in no net; these pins are words 3 and
--- 4 of the line
+-- the line and word of the first of the two pins on line `n` that is in no net; these pins are
+-- words 3 and 4 of the line
 abbrev pub missing_of : List NetLine → ℕ → Word → Word → Word → Option Spot
 missing_of nets n part first second =
     if is_missing_pin nets part first then Some (record { line = n; word = 3 })
@@ -32,7 +32,7 @@ missing_on nets n (Inert part) = None
 missing_on nets n (Supply net) = None
 missing_on nets n (Pull net value) = None
 
--- the place of the first LINK pin on these lines that is in no net
+-- the line and word of the first LINK pin on these lines that is in no net
 abbrev pub missing_link_pin : List NetLine → List ChainLine → Option Spot
 missing_link_pin nets [] = None
 missing_link_pin nets (line ∷ lines) = missing_on nets line.line line.statement then missing_link_pin nets lines

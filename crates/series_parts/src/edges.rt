@@ -1,4 +1,4 @@
-// The edges between lines whose nets are joined.
+// The edges between lines whose nets are joined. An edge is the pair of the indices of two lines.
 ghost use Rattle.std.specs.Prelude.{All, ◌≡◌, ◌<◌, ◌^◌, ◌++◌, length, unwrap_or, IfOk, OnOk};
 ghost use Rattle.board_files.specs.Names.{line_names};
 ghost use Rattle.series_parts.specs.inner.Edges.{edge_between, edge_of, edge_on, edges, link_edges, name_edges, name_place};
@@ -58,7 +58,7 @@ fn push_link_edges(
     Ok(())
 }
 
-/// Returns the place of the first line with this name, or `place` if no line has the name.
+/// Returns the index of the first line with this name, or `place` if no line has the name.
 fn first_of(names: &Names<'_>, name: &[u8], place: usize) -> usize
     ensures { result ≡ unwrap_or (name_place names.now name.now) place }
 {
@@ -80,7 +80,8 @@ fn name_edges(alloc: Global, names: &Names<'_>) -> Result<Vec<(usize, usize)>, A
     Ok(edges)
 }
 
-/// Returns the edges between lines that have the same name or that a LINK line joins.
+/// Returns the edges between lines that have the same name or that a LINK line joins. `names` must
+/// be the names on the lines of `pins`.
 pub fn edges(
     alloc: Global,
     chain: &[ChainLine],

@@ -1,16 +1,16 @@
-// The reasons for which the files cannot be joined.
+// The faults of joining a chain file and a net file.
 ghost use Rattle.std.specs.Prelude.{◌≡◌, alloc_error};
 ghost use Rattle.series_parts.specs.declared.fault.LinkFault.TheVariants.{Memory};
 
 use board_defs::Spot;
 use std::alloc::{AllocError, AllocFailed};
 
-/// The reason for which the files cannot be joined: the first LINK pin that is in no net, or lack
-/// of memory.
+/// The reason why the files cannot be joined: the first LINK pin that is in no net, or lack of
+/// memory.
 #[derive(Debug, Drop, thiserror::Error)]
 pub enum LinkFault {
-    /// The place of the pin: the line of the chain file, and the number of the word, which is 3 or
-    /// 4.
+    /// The line of the chain file on which the pin is, and the number of the pin's word, which is 3
+    /// or 4.
     #[error("line {} word {}: link pin not in a net", .0.line, .0.word)]
     NoLinkPin(Spot),
     #[error("out of memory")]

@@ -1,4 +1,4 @@
-// Copies of the lines of the files with the new names of nets.
+// Copies the lines of the files, with new names of the nets.
 ghost use Rattle.std.specs.Prelude.{◌≡◌, map, IfOk};
 ghost use Rattle.series_parts.specs.inner.Edges.{renamed};
 ghost use Rattle.series_parts.specs.Joining.{joined_line, joined_net, joined_statement};
@@ -42,7 +42,8 @@ fn copy_pins(alloc: Global, pins: &[PinWord]) -> Result<Vec<PinWord>, AllocError
     Ok(copies)
 }
 
-/// Returns the new name of a net. `least` has the new names of the nets on the lines.
+/// Returns the new name of a net. `least` has the new names of the nets on the lines. A net that is
+/// on no line keeps its name.
 #[tactic(auto, unfolding(crate::specs::inner::Edges::renamed))]
 fn renamed<'a>(names: &Names<'_>, least: &[&'a [u8]], name: &'a [u8]) -> &'a [u8]
     ensures { result.now ≡ renamed names.now (map (λ n. n.now) least.now) name.now }
@@ -157,7 +158,8 @@ fn joined_line(
     })
 }
 
-/// Returns the lines of a chain file with the new names of their nets, and INERT lines in place of LINK lines.
+/// Returns the lines of a chain file with the new names of their nets. Replaces each LINK line by
+/// an INERT line for its part.
 pub fn joined_chain(
     alloc: Global,
     names: &Names<'_>,

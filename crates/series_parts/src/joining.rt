@@ -20,7 +20,7 @@ pub struct Joined {
     pub nets: NetFile,
 }
 
-/// Returns the files in which each net has its joined name.
+/// Returns the files in which each net has its joined name. `pins` must have the lines of `nets`.
 fn renamed_files(
     alloc: Global,
     chain: &ChainFile,
@@ -43,8 +43,8 @@ fn renamed_files(
     })
 }
 
-/// Returns the joined files of a chain file and a net file. If some LINK pin is in no net, the
-/// fault has the place of the first such pin.
+/// Returns the joined files of a chain file and a net file. If some LINK pin is in no net, returns
+/// the line and word of the first such pin as the fault.
 pub fn join(alloc: Global, chain: &ChainFile, nets: &NetFile) -> Result<Joined, LinkFault>
     ensures answer { Gives link_told (λ joined. joined)
         (λ answer. joined_files chain.now nets.now ≡ answer) result }

@@ -1,5 +1,5 @@
-//! Laws of joined files. Each law is the contract of a function that does nothing. A function whose
-//! proof needs a law calls the law's function.
+//! Laws of joined files. A law is a property that holds for all files, stated as the contract of a
+//! function that does nothing. A function whose proof needs a law calls the law's function.
 ghost use Rattle.std.specs.Prelude.{◌≡◌, false, List, length, map, Ok};
 ghost use Rattle.std.specs.List.{AllByRecursion};
 ghost use Rattle.board_files.specs.ChainLines.{HasBypassLength};
@@ -9,8 +9,7 @@ ghost use Rattle.series_parts.specs.JoinedFiles.{AreJoinedFiles};
 ghost use Rattle.series_parts.specs.Joining.{joined_chain, joined_files, joined_nets};
 ghost use Rattle.series_parts.specs.Lines.{chain_part_lines, has_link};
 
-/// The files that `joined_chain` and `joined_nets` return are the joined files, and there are no
-/// others.
+/// `joined_chain` and `joined_nets` return joined files, and there are no other joined files.
 pub fn joined_once()
     ensures joined { (chain : List ChainLine) (nets : List NetLine)
         → AreJoinedFiles chain nets (joined_chain chain nets) (joined_nets chain nets) }
@@ -25,8 +24,9 @@ pub fn unlinked_files()
         → joined_files chain nets ≡ Ok (record { chain = chain; nets = nets }) }
 {}
 
-/// A joined chain file has no LINK line. It has the DEVICE and BYPASS lines of the chain file, and all its line
-/// numbers. A joined net file has the line numbers and the pins of the net file, line by line.
+/// A joined chain file has no LINK line. Its DEVICE and BYPASS lines, and the line numbers of all
+/// its lines, are those of the chain file. A joined net file has the line numbers and the pins of
+/// the net file, line by line.
 pub fn kept_lines()
     ensures links { (chain : List ChainLine) (nets : List NetLine)
         → has_link (joined_chain chain nets) ≡ false }

@@ -11,7 +11,8 @@ use crate::pins::Pins;
 use board_files::ChainLine;
 use std::alloc::{AllocError, Global};
 
-/// Returns the names on the lines at these places, in order.
+/// Returns the names on the lines at these indices, in order. Each index must be less than the
+/// number of lines.
 fn names_at<'a>(
     alloc: Global,
     names: &Names<'a>,
@@ -29,8 +30,8 @@ fn names_at<'a>(
     Ok(found)
 }
 
-/// Returns the joined name of each line's net. This is the name of the first net on the lines that
-/// is joined with the line's net.
+/// Returns the joined name of each line's net: the name of the first net on the lines that is
+/// joined with the line's net. `names` must be the names on the lines of `pins`.
 pub fn least_names<'a>(
     alloc: Global,
     chain: &[ChainLine],

@@ -44,7 +44,8 @@ fn missing_on(pins: &Pins<'_>, line: u32, statement: &ChainStatement) -> Option<
     }
 }
 
-/// Returns the place of the first LINK pin that is in no net. Returns None if there is no such pin.
+/// Returns the line and word of the first LINK pin that is in no net. Returns None if there is no
+/// such pin.
 pub fn missing_link_pin(pins: &Pins<'_>, lines: &[ChainLine]) -> Option<Spot>
     ensures { result ≡ missing_link_pin pins.now lines.now }
 {

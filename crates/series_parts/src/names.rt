@@ -12,7 +12,8 @@ use indexmap::IndexMap;
 use std::alloc::{AllocError, Global};
 use std::marker::Model;
 
-/// Returns a map from each name to the place of the first line with this name.
+/// Returns a map from each name to the index of the first line with this name. There must be fewer
+/// than 2^32 names.
 fn name_places<'a>(alloc: Global, names: &[&'a [u8]]) -> Result<IndexMap<&'a [u8], u32>, AllocError>
     requires { length names.now < 2 ^ 32 }
     ensures { IfOk result
@@ -47,7 +48,7 @@ impl<'a> Model for Names<'a> {
 }
 
 impl<'a> Names<'a> {
-    /// Returns the names on these lines.
+    /// Returns the names on these lines. There must be fewer than 2^32 lines.
     pub fn of(alloc: Global, lines: &'a [NetLine]) -> Result<Names<'a>, AllocError>
         requires { length lines.now < 2 ^ 32 }
         ensures { IfOk result (λ names. names ≡ line_names lines.now) }
@@ -57,7 +58,7 @@ impl<'a> Names<'a> {
         Ok(Names { names, places })
     }
 
-    /// Returns the place of the first line with this name, if there is one.
+    /// Returns the index of the first line with this name, or None if there is none.
     pub fn place_of(&self, name: &[u8]) -> Option<u32>
         ensures { result ≡ name_place self.now name.now }
     {
@@ -71,7 +72,7 @@ impl<'a> Names<'a> {
         self.names.len()
     }
 
-    /// Returns the name on the line at `place`.
+    /// Returns the name on the line at index `place`, which must be less than the number of lines.
     pub fn at(&self, place: usize) -> &'a [u8]
         requires { place < length self.now }
         ensures { slice_get self.now place ≡ Some result.now }

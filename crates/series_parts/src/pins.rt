@@ -1,4 +1,4 @@
-// The first line on which each pin is.
+// The first line that has each pin.
 ghost use Rattle.std.specs.Prelude.{◌≡◌, ◌<◌, ◌^◌, ◌&&◌, if◌then◌else◌, length, IfOk, OnOk, List, ℕ, Some};
 ghost use Rattle.std.proofs.Common.{Bor};
 ghost use Rattle.indexmap.specs.IndexMap.{get_by};
@@ -14,8 +14,8 @@ use std::marker::Model;
 /// The key of a pin: the name of its part, and the pin's own name.
 type PinKey<'a> = (&'a [u8], &'a [u8]);
 
-/// Maps each of these pins to `place`, the place of their line. Replaces the place that the map had
-/// for a pin.
+/// Maps each of these pins to `place`, the index of their line. Replaces the map's earlier value
+/// for each of the pins.
 fn put_pins<'a>(
     places: &mut IndexMap<PinKey<'a>, u32>,
     words: &'a [PinWord],
@@ -34,7 +34,8 @@ fn put_pins<'a>(
     Ok(())
 }
 
-/// Returns a map from each pin to the place of the first line with that pin.
+/// Returns a map from each pin to the index of the first line with that pin. There must be fewer
+/// than 2^32 lines.
 fn pin_places<'a>(
     alloc: Global,
     lines: &'a [NetLine],
@@ -79,7 +80,7 @@ impl<'a> Model for Pins<'a> {
 }
 
 impl<'a> Pins<'a> {
-    /// Returns the pins on these lines.
+    /// Returns the pins on these lines. There must be fewer than 2^32 lines.
     pub fn of(alloc: Global, lines: &'a [NetLine]) -> Result<Pins<'a>, AllocError>
         requires { length lines.now < 2 ^ 32 }
         ensures { IfOk result (λ pins. pins ≡ lines.now) }
@@ -88,7 +89,7 @@ impl<'a> Pins<'a> {
         Ok(Pins { lines, places })
     }
 
-    /// Returns the place of the first line with this pin, if there is one.
+    /// Returns the index of the first line with this pin, or None if there is none.
     pub fn place_of(&self, part: &[u8], pin: &[u8]) -> Option<u32>
         ensures { result ≡ pin_place self.now part.now pin.now }
     {

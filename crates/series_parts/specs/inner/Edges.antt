@@ -11,11 +11,11 @@ use Rattle.board_files.specs.Names.{same_word, line_names}
 use Rattle.series_parts.specs.Nets.{Word, has_pin}
 use Rattle.series_parts.specs.inner.Labels.{Edges}
 
--- the place of the first line with this name
+-- the index of the first line with this name
 abbrev pub name_place : List Word → Word → Option ℕ
 name_place names name = first_place same_word names name
 
--- the place of the first line with this pin
+-- the index of the first line with this pin
 abbrev pub pin_place : List NetLine → Word → Word → Option ℕ
 pin_place nets part pin = position_from (has_pin part pin) 0 nets
 

@@ -3,8 +3,9 @@
 use Rattle.std.specs.Prelude.{◌≡◌, ℕ, ◌<◌, ◌≤◌, ◌==◌, ◌||◌, min, List, length, Some, slice_get, slice_index, if◌then◌else◌}
 use Rattle.series_parts.specs.inner.Labels.{Edges, Joined}
 
--- `label` maps each point to its label. The label of a point is not higher than the point, and is
--- equal to the label of the point's parent. A point that is its own parent is its own label.
+-- No parent is higher than its point. `label` maps each point to its label, which is not higher
+-- than the point, and is equal to the label of the point's parent. A point that is its own parent
+-- is its own label.
 pub record IsLabelling (parents : List ℕ) (label : ℕ → ℕ) : Type 0 where
   pub low : (x : ℕ) → x < length parents → slice_index parents x ≤ x
   pub least : (x : ℕ) → label x ≤ x

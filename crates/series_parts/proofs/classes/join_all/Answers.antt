@@ -1,4 +1,4 @@
--- Each step of the loop takes one more edge into account.
+-- Each step of the loop joins the ends of one more edge.
 use Rattle.std.proofs.Common.{◌≡◌, get_or, refl, arith}
 use Rattle.std.proofs.lemmas.Option.{slice_get-get_or}
 use Rattle.series_parts.specs.inner.Roots.{merged}

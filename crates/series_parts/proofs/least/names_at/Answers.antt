@@ -1,4 +1,4 @@
--- Each step of the loop appends the name at one more place.
+-- Each step of the loop appends one more name.
 use Rattle.std.proofs.Common.{◌≡◌, ◌∙◌, ◌++◌, ◌∷◌, [], arith, sym, ap, map, take, get_or}
 use Rattle.std.proofs.lemmas.List.{map-append, map_more}
 use Rattle.std.proofs.lemmas.Option.{get_or_from_slice_get}

@@ -4,7 +4,8 @@ use Rattle.board_files.specs.Names.{same_word}
 use Rattle.series_parts.specs.Nets.{has_word}
 use Rattle.series_parts.proofs.pins.put_pins.Given as goal
 
--- putting the remaining pins into the map gives the map that has all pins of the line
+-- writing the remaining pins into the current map has the same result as writing all pins of the
+-- line into the map before the call
 abbrev pub invariant-loop-word : goal.invariant-loop-word
 invariant-loop-word l = (q : Bor (List ℕ) × Bor (List ℕ)) →
     cond (has_word q.0.now q.1.now (drop l.word-index l.words)) (Some l.place)
