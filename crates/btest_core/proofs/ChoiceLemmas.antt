@@ -30,8 +30,7 @@ chooses_none entities choices = record {
   devices = λ i choice device chosen_texts there. absurd (none-some device there);
 }
 
--- if each device of `front` belongs to the choice at its place, and `device` belongs to the next
--- choice, the same is true of `front` with `device` appended
+-- one step of the loop: the device of the next choice is appended
 of_more : (entities : List Entity) (choices : List Chosen) (front : List RawDevice)
     (device : RawDevice) → AreOfChoices entities choices front
     → ((choice : Chosen) → slice_get choices (length front) ≡ Some choice
@@ -46,11 +45,10 @@ of_more entities (first ∷ choices) (d ∷ front) device are is (suc i) choice 
     =
     of_more entities choices front device (λ k. are (suc k)) is i choice found chosen_texts there
 
--- the choices from place `n` on are the choice at place `n` followed by the choices after it
 left_at : (choices : List Chosen) (n : ℕ) → n < length choices → drop n choices ≡ slice_index_or choices n (0, None) ∷ drop (n + 1) choices
 left_at choices n within = let next : n + 1 ≡ suc n = omega arith in rw next (drop-cons choices n (0, None) within)
 
--- the choice at place `n` is the borrowed choice at this place without the borrow
+-- choice `n` is borrowed choice `n` without the borrow
 pub choice_at : (chosen_texts : List Lent) (n : ℕ) (d : Lent) (choice : Chosen)
     → n < length chosen_texts → slice_get (choices_of chosen_texts) n ≡ Some choice
     → ((slice_index_or chosen_texts n d).0, option_copied (slice_index_or chosen_texts n d).1)
@@ -98,30 +96,25 @@ chooses_all entities choices n front past so_far =
     (subst (λ rest. Completes (IsDeviceOf entities) choices rest front) (drop_all n choices past)
     so_far.completes)
 
--- if one of two lists is empty, they give no pairs
 pub no_pairs : {A B : Type 0} (xs : List A) (ys : List B) → (length xs ≡ 0) ⊎ (length ys ≡ 0) → ◌≡◌ {A = List (A × B)} (zip xs ys) []
 no_pairs [] ys ended = refl
 no_pairs (x ∷ xs) [] ended = refl
 no_pairs (x ∷ xs) (y ∷ ys) (inl none) = absurd (omega (arith, none))
 no_pairs (x ∷ xs) (y ∷ ys) (inr none) = absurd (omega (arith, none))
 
--- applying `f` to the second item of each pair gives the same pairs as applying it to the second
--- list
 pub zip_seconds : {A B C : Type 0} (f : B → C) (xs : List A) (ys : List B)
     → map (λ pair. (pair.0, f pair.1)) (zip xs ys) ≡ zip xs (map f ys)
 zip_seconds f [] ys = refl
 zip_seconds f (x ∷ xs) [] = refl
 zip_seconds f (x ∷ xs) (y ∷ ys) = ap (λ pairs. (x, f y) ∷ pairs) (zip_seconds f xs ys)
 
--- if all numbers of the first list are below `n`, so is the number in each pair
 pub zip_firsts : {B : Type 0} (n : ℕ) (xs : List ℕ) (ys : List B) → AllByRecursion (λ x. x < n) xs
     → AllByRecursion (λ pair. pair.0 < n) (zip xs ys)
 zip_firsts n [] ys all = tt
 zip_firsts n (x ∷ xs) [] all = tt
 zip_firsts n (x ∷ xs) (y ∷ ys) all = (all.0, zip_firsts n xs ys all.1)
 
--- if the later lines give as many packages as they name entities, the same is true of this line and
--- the later lines together
+-- one step of the induction over the lines: a DEVICE line has one package and names one entity
 count_more : (n : ℕ) (statement : ChainStatement) (lines : List ChainLine)
     → length (filter_map (λ line. package_in line.statement) lines)
     ≡ length (named EntityName lines)

@@ -51,6 +51,5 @@ each_whole : (devices : List RawDevice) → AllByRecursion IsDevice devices → 
 each_whole [] all = tt
 each_whole (device ∷ devices) all = (all.0.codes.idcode_length, each_whole devices all.1)
 
--- if devices keep the rules of a device, each of their patterns has 32 symbols
 pub whole_idents : (devices : List RawDevice) → AllByRecursion IsDevice devices → All IsWhole (idents_of devices)
 whole_idents devices all = All-from_recursion IsWhole (idents_of devices) (each_whole devices all)

@@ -27,8 +27,6 @@ each_length : (parts : List Part) → AllByRecursion (λ part. IsPart part.kind)
 each_length [] all = tt
 each_length (part ∷ parts) all = (in_bounds part.kind all.0, each_length parts all.1)
 
--- if the parts have the names on the lines of a selected chain and keep the rules of a part, there
--- are 1 to 255 instruction lengths, each of 2 to 255 bits
 pub lengths_in_bounds : (lines : List ChainLine) (parts : List Part) → IsChain lines
     → map (λ part. part.name) parts ≡ names_of (named PartName lines)
     → All (λ part. IsPart part.kind) parts

@@ -53,22 +53,22 @@ each_one IsOf ones (item ∷ items) =
     (λ value. follows_one (EachOf IsOf items) _ (each_one IsOf ones items)
     (λ values. is_one (Ok (value ∷ values))))
 
--- The laws of lower crates that these proofs take as arguments: a text has at most one list of
--- tokens and one lexer answer.
+-- A law of the lexer, which these proofs take as an argument: a text has at most one list of tokens
+-- and one lexer answer.
 abbrev pub OneLexed : Type 0
 OneLexed =
     (text : List ℕ) (tokens others : List Token) (answer other : Result (Unit {0}) LexFault)
     → lexer.IsLexAnswer text tokens answer → lexer.IsLexAnswer text others other
     → (tokens ≡ others) × (answer ≡ other)
 
--- the tokens of a text have at most one parser answer
+-- a law of the parser: the tokens of a text have at most one parser answer
 abbrev pub OneParsed : Type 0
 OneParsed =
     (text : List ℕ) (tokens : List Lexeme) (answer other : Result Entity ParseFault)
     → parser.IsParseAnswer text tokens answer → parser.IsParseAnswer text tokens other
     → answer ≡ other
 
--- an entity has at most one answer for each package
+-- a law of the device check: an entity has at most one answer for each package
 abbrev pub OneChecked : Type 0
 OneChecked =
     (entity : Entity) (given : Option (List ℕ)) (answer other : Result RawDevice DeviceFault)

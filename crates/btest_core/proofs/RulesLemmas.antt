@@ -36,35 +36,35 @@ use Rattle.btest_core.proofs.JoinLemmas.{kept}
 use Rattle.btest_core.proofs.OneLemmas.{same_ok}
 use Rattle.btest_core.proofs.SomeLemmas.{selected}
 
--- The laws of lower crates that these proofs take as arguments: a sound device keeps the rules of a
--- device.
+-- A law of the device check, which these proofs take as an argument: a sound device keeps the rules
+-- of a device.
 abbrev pub SoundKeep : Type 0
 SoundKeep = (entity : Entity) (given : Option (List ℕ)) (device : RawDevice) → IsSound entity given device → IsDevice device
 
--- if the selection succeeds, the chain has 1 to 255 parts with different names
+-- a law of the selection: if it succeeds, the chain has 1 to 255 parts with different names
 abbrev pub SelectChains : Type 0
 SelectChains = (lines : List ChainLine) (entities : List Entity) (numbers : List ℕ) → selection lines entities ≡ Ok numbers → IsChain lines
 
--- the selection returns a number for each DEVICE line
+-- a law of the selection: it returns a number for each DEVICE line
 abbrev pub SelectEach : Type 0
 SelectEach =
     (lines : List ChainLine) (entities : List Entity) (numbers : List ℕ)
     → selection lines entities ≡ Ok numbers → length numbers ≡ length (named EntityName lines)
 
--- the lengths on the BYPASS lines of a chain file are in range
+-- a law of chain files: the lengths on the BYPASS lines are in range
 abbrev pub HaveLengths : Type 0
 HaveLengths =
     (text : List ℕ) (lines : List ChainLine) → chain_lines text ≡ Ok lines
     → AllByRecursion (λ line. HasBypassLength line.statement) lines
 
--- the board that files and devices denote keeps the rules of a board
+-- a law of boards: the board that files and devices denote keeps the rules of a board
 abbrev pub BoardsKeep : Type 0
 BoardsKeep = (chain : List ChainLine) (nets : List NetLine) (devices : List RawDevice) (board : RawBoard)
     → IsChain chain → AllByRecursion (λ line. HasBypassLength line.statement) chain
     → AllByRecursion IsDevice devices → length devices ≡ length (named EntityName chain)
     → board_of chain nets devices ≡ Ok board → IsBoard board
 
--- if the answer of two steps is a value, the first step also returned a value, and the next step
+-- if the answer of two steps is a value, the first step returned a value, and the next step
 -- returned the answer for it
 follows_ok : {A B : Type 0} (first : Result A InputFault → Type 0)
     (next : A → Result B InputFault → Type 0) (value : B) → IsAnswerOfSteps first next (Ok value)
@@ -72,20 +72,17 @@ follows_ok : {A B : Type 0} (first : Result A InputFault → Type 0)
 follows_ok first next value (inl (found, is, answers)) = (found, is, answers)
 follows_ok first next value (inr (fault, is, answers)) = absurd cc
 
--- if `in_file` returns a value, reading the file returned the same value
 in_file_ok : {A : Type 0} (of_file : LineFault → InputFault) (answer : Result A LineFault)
     (value : A) → ◌≡◌ {A = Result A InputFault} (Ok value) (in_file of_file answer)
     → answer ≡ Ok value
 in_file_ok of_file (Ok v) value same = cc
 in_file_ok of_file (Err fault) value same = absurd cc
 
--- if `in_link` returns joined files, joining returned the same files
 in_link_ok : (answer : Result Joined LinkFault) (value : Joined)
     → ◌≡◌ {A = Result Joined InputFault} (Ok value) (in_link answer) → answer ≡ Ok value
 in_link_ok (Ok v) value same = cc
 in_link_ok (Err fault) value same = absurd cc
 
--- if a text describes a device, the device keeps the rules of a device
 pub device_keeps : SoundKeep → (text : List ℕ) (device : RawDevice) → IsDeviceText text (Ok device) → IsDevice device
 device_keeps sound text device is =
     let step = follows_ok (IsEntityOf text 0) (λ entity. IsDeviceIn entity (0, None)) device is in
@@ -114,8 +111,8 @@ chosen_keep sound entities (choice ∷ choices) devices are =
       number = omega (arith, keep.number);
     })
 
--- the chain is a selected chain, and there is a device for each DEVICE line, which keeps the rules
--- of a device
+-- the chain has 1 to 255 parts with different names; there is a device for each DEVICE line, and
+-- each device keeps the rules of a device
 record IsKeptChain (lines : List ChainLine) (devices : List RawDevice) : Type 0 where
   chain : IsChain lines
   kept : AreKept (length (named EntityName lines)) devices
@@ -140,8 +137,6 @@ devices_keep sound chains counts lines texts devices are =
     let step = follows_ok (AreEntities texts) (AreSelected lines) devices are in
     selected_keep sound chains counts lines step.0 devices step.2
 
--- if the chain and its devices keep their rules and the joined files denote a board, the board
--- keeps the rules of a board
 board_keeps_joined : BoardsKeep
     → (lines : List ChainLine) (nets : List NetLine) (devices : List RawDevice) (board : RawBoard)
     → AllByRecursion (λ line. HasBypassLength line.statement) lines → IsKeptChain lines devices
@@ -167,7 +162,7 @@ board_keeps sound chains counts lengths boards chain nets texts board is =
     (lengths chain of_chain.0 (in_file_ok Chain (chain_lines chain) of_chain.0 of_chain.1))
     (devices_keep sound chains counts of_chain.0 texts of_texts.0 of_texts.1) of_texts.2
 
--- there is no BYPASS line, and the patterns are the patterns of the devices
+-- there is no BYPASS line, and `idents` are the patterns of the devices
 record ArePatternsOf (bypass : Option ℕ) (devices : List RawDevice) (idents : List Ident) : Type 0 where
   none : bypass ≡ None
   are : idents ≡ idents_of devices

@@ -54,7 +54,6 @@ some_each IsOf (item ∷ items) some =
     (λ value is. some_follows (EachOf IsOf items) _ (some_each IsOf items some.1)
     (λ values are. some_is (Ok (value ∷ values))))
 
--- if P holds of every value of a type, it holds of each item of a list
 each_is : {A : Type 0} (P : A → Type 0) → ((item : A) → P item) → (items : List A) → AllByRecursion P items
 each_is P is [] = tt
 each_is P is (item ∷ items) = (is item, each_is P is items)
@@ -64,22 +63,22 @@ each_more : {A : Type 0} (P Q : A → Type 0) → ((item : A) → P item → Q i
 each_more P Q more [] all = tt
 each_more P Q more (item ∷ items) all = (more item all.0, each_more P Q more items all.1)
 
--- The laws of lower crates that these proofs take as arguments: each text has tokens and a lexer
+-- A law of the lexer, which these proofs take as an argument: each text has tokens and a lexer
 -- answer.
 abbrev pub SomeLexed : Type 0
 SomeLexed = (text : List ℕ) → (tokens : List Token) × (answer : Result (Unit {0}) LexFault) × lexer.IsLexAnswer text tokens answer
 
--- the tokens of each text have a parser answer
+-- a law of the parser: the tokens of each text have a parser answer
 abbrev pub SomeParsed : Type 0
 SomeParsed = (text : List ℕ) (tokens : List Lexeme) → (answer : Result Entity ParseFault) × parser.IsParseAnswer text tokens answer
 
--- each entity has an answer for each package
+-- a law of the device check: each entity has an answer for each package
 abbrev pub SomeChecked : Type 0
 SomeChecked =
     (entity : Entity) (given : Option (List ℕ))
     → (answer : Result RawDevice DeviceFault) × check.IsDeviceAnswer entity given answer
 
--- each number that the selection returns is the number of an entity
+-- a law of the selection: each number that it returns is the index of an entity
 abbrev pub SelectsWithin : Type 0
 SelectsWithin =
     (lines : List ChainLine) (entities : List Entity) (numbers : List ℕ)

@@ -13,8 +13,7 @@ bytes_of texts = map (λ text. text.items) texts
 abbrev pub numbered : ℕ → List (Vec ℕ Global) → List (ℕ × List ℕ)
 numbered n texts = enumerate_from n (bytes_of texts)
 
--- each answer for the texts `rest`, with the entities of `front` in front, is an answer for all
--- texts
+-- each answer for the texts `rest`, put behind the entities of `front`, is an answer for all texts
 abbrev pub CompletesTexts : List (Vec ℕ Global) → List (ℕ × List ℕ) → List Entity → Type 0
 CompletesTexts texts rest front = Completes IsEntityOfText (numbered 0 texts) rest front
 

@@ -22,7 +22,7 @@ EachOf IsOf (item ∷ items) answer =
     IsAnswerOfSteps (IsOf item)
     (λ value. IsAnswerOfSteps (EachOf IsOf items) (λ values. Is (Ok (value ∷ values)))) answer
 
--- the fault, or None if memory ran out, since no definition speaks of memory
+-- the fault, or None if memory ran out; the definitions of answers assume enough memory
 abbrev pub input_told : InputFault → Option InputFault
 input_told (Memory error) = None
 input_told fault = Some fault

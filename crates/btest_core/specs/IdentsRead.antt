@@ -16,7 +16,7 @@ use Rattle.btest_core.specs.DevicesRead.{AreDevices}
 abbrev pub Ident : Type 0
 Ident = Option (List Symbol)
 
--- the line is a BYPASS line; the part on such a line has no description
+-- the line is a BYPASS line; the part on such a line has no BSDL description
 abbrev pub is_bypass : ChainStatement → Bool
 is_bypass (Bypass part bits) = true
 is_bypass (DeviceLine part entity given) = false
@@ -29,14 +29,13 @@ is_bypass (LinkLine part first second) = false
 abbrev pub first_bypass : List ChainLine → Option ℕ
 first_bypass lines = option_map (λ line. line.line) (find (λ line. is_bypass line.statement) lines)
 
--- the patterns of these devices, or the fault of the first part without a description if there is
--- such a part
+-- the patterns of these devices, or the fault of the first BYPASS line if there is one
 abbrev pub idents_unless : Option ℕ → List RawDevice → Result (List Ident) InputFault
 idents_unless None devices = Ok (map (λ device. device.idcode) devices)
 idents_unless (Some line) devices = Err (NoIdent line)
 
 -- the answer is the patterns of the devices on these lines, in chain order, or the first fault; the
--- fault of a part without a description comes last
+-- fault of a BYPASS line comes last
 abbrev pub AreFileIdents : List ChainLine → List (List ℕ) → Result (List Ident) InputFault → Type 0
 AreFileIdents lines texts = IsAnswerOfSteps (AreDevices lines texts) (λ devices. Is (idents_unless (first_bypass lines) devices))
 

@@ -24,7 +24,7 @@ use series_parts::law::unlinked_files;
 use series_parts::{Joined, LinkFault, join};
 use std::alloc::Global;
 
-// Returns the net file that a text contains.
+// Returns the net file that a text contains, or the fault of its first faulty line.
 fn net_file(alloc: Global, text: &[u8]) -> Result<NetFile, InputFault>
     requires { length text.now < 2 ^ 32 }
     ensures { Gives input_told (λ file. file) (Is (in_file Nets (net_lines text.now))) result }
@@ -49,8 +49,8 @@ fn has_link(chain: &ChainFile) -> bool
     chain.lines().iter().any(|line| is_link(&line.statement))
 }
 
-// Returns the joined files. Frees the net file before a board is built, since the net file and the
-// board each hold a copy of all names.
+// Returns the joined files of a chain file and a net file. Takes the net file by value to free it
+// before the board is built, since each of them holds a copy of all names.
 fn joined_files(alloc: Global, chain: &ChainFile, nets: NetFile) -> Result<Joined, InputFault>
     ensures joined { Gives input_told (λ joined. joined)
         (Is (in_link (joined_files chain.now nets))) result }
@@ -63,7 +63,7 @@ fn joined_files(alloc: Global, chain: &ChainFile, nets: NetFile) -> Result<Joine
     }
 }
 
-// Returns the board of joined files.
+// Returns the board of joined files, or the first fault of the board rules.
 fn board_of(
     alloc: Global,
     chain: &ChainFile,
@@ -82,8 +82,8 @@ fn board_of(
     }
 }
 
-// Returns the board of the devices and of files without LINK lines. Such files need no joining, so
-// they are not copied.
+// Returns the board of the devices and of files without LINK lines, or the first fault. Such files
+// need no joining, so they are not copied.
 fn unlinked_board(
     alloc: Global,
     chain: &ChainFile,
@@ -100,7 +100,7 @@ fn unlinked_board(
     board_of(alloc, chain, nets, devices)
 }
 
-// Returns the board of the files and the devices. Joins the files first.
+// Joins the files, and returns the board of the joined files and the devices, or the first fault.
 fn joined_board(
     alloc: Global,
     chain: &ChainFile,
@@ -121,7 +121,7 @@ fn joined_board(
     }
 }
 
-// Returns the board of the files and the BSDL texts.
+// Returns the board of the files and the BSDL texts, or the first fault.
 fn files_board(
     alloc: Global,
     chain: &ChainFile,
@@ -142,7 +142,8 @@ fn files_board(
 /// Returns the board that a chain file, a net file and BSDL texts denote, or the first fault. Looks
 /// for faults in this order: the chain file, the net file, the BSDL texts, the board rules on the
 /// chain, the devices of its DEVICE lines, the pins of its LINK lines, and the other board rules,
-/// which are checked on the joined files.
+/// which are checked on the joined files. Each text must have fewer than 2^32 bytes, and there must
+/// be fewer than 2^32 BSDL texts.
 pub fn read_board(
     alloc: Global,
     chain: &[u8],

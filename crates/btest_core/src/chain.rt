@@ -18,7 +18,8 @@ use board_defs::{Device, Part};
 use board_files::{ChainFile, LineFault, chain};
 use std::alloc::{AllocError, Global};
 
-/// Returns the chain file that a text contains.
+/// Returns the chain file that a text contains, or the fault of its first faulty line. The text
+/// must have fewer than 2^32 bytes.
 pub(crate) fn chain_file(alloc: Global, text: &[u8]) -> Result<ChainFile, InputFault>
     requires { length text.now < 2 ^ 32 }
     ensures { Gives input_told (λ file. file) (Is (in_file Chain (chain_lines text.now))) result }
@@ -74,9 +75,10 @@ fn file_lengths(alloc: Global, file: &ChainFile, bsdl: &[Vec<u8>]) -> Result<Vec
     }
 }
 
-/// Returns the instruction lengths of a chain, in bits, in the order from TDI to TDO: 1 to 255 lengths
-/// of 2 to 255 bits. Otherwise returns the first fault, in this order: the chain file, the BSDL
-/// texts, the board rules on the chain, and the devices of its DEVICE lines.
+/// Returns the instruction lengths of a chain, in bits, in the order from TDI to TDO: 1 to 255
+/// lengths of 2 to 255 bits. Otherwise returns the first fault, in this order: the chain file, the
+/// BSDL texts, the board rules on the chain, and the devices of its DEVICE lines. Each text must
+/// have fewer than 2^32 bytes, and there must be fewer than 2^32 BSDL texts.
 pub fn read_chain(alloc: Global, chain: &[u8], bsdl: &[Vec<u8>]) -> Result<Vec<u32>, InputFault>
     requires size { length chain.now < 2 ^ 32 }
     requires each { All (λ text. length text.items < 2 ^ 32) bsdl.now }

@@ -23,7 +23,7 @@ use device_check::{DeviceFault, device};
 use std::alloc::{AllocError, Global};
 
 /// Returns the device that a BSDL text describes in its default package, or the text's first fault.
-/// The number of the text in the fault is 0.
+/// The number of the text in the fault is 0. The text must have fewer than 2^32 bytes.
 pub fn read_device(alloc: Global, bytes: &[u8]) -> Result<Device, InputFault>
     requires { length bytes.now < 2 ^ 32 }
     ensures { Gives input_told (λ device. device) (IsDeviceText bytes.now) result }
@@ -34,7 +34,8 @@ pub fn read_device(alloc: Global, bytes: &[u8]) -> Result<Device, InputFault>
     }
 }
 
-// Returns the device of the entity in this package, or the first rule or string that fails.
+// Returns the device of the entity in this package, or the fault of the first rule or string that
+// fails.
 fn device_in(
     alloc: Global,
     entity: &Entity,
@@ -52,8 +53,8 @@ fn device_in(
     }
 }
 
-// Returns the device of entity number `text` in this package, or the first rule or string that
-// fails.
+// Returns the device of entity number `text` in this package, or the fault of the first rule or
+// string that fails.
 fn device_of(
     alloc: Global,
     entities: &[Entity],
@@ -78,8 +79,8 @@ fn is_same_package(a: Option<&[u8]>, b: Option<&[u8]>) -> bool
     }
 }
 
-// Returns the first place before place `i` with the same choice as place `i`, or None if there is
-// no such place.
+// Returns the index of the first choice before choice `i` that is the same, or None if there is no
+// such choice.
 fn earlier(chosen: &[(u32, Option<&[u8]>)], i: usize) -> Option<usize>
     requires { i < length chosen.now }
     ensures before { IfSome result (λ j. j < i) }
@@ -95,8 +96,8 @@ fn earlier(chosen: &[(u32, Option<&[u8]>)], i: usize) -> Option<usize>
     None
 }
 
-// Returns the device of the choice at place `i`. `devices` has the devices of the earlier choices.
-// If an earlier choice is the same, copies the device of the earlier choice.
+// Returns the device of choice `i`. `devices` has the devices of the earlier choices. If an earlier
+// choice is the same, copies its device.
 fn next_device(
     alloc: Global,
     entities: &[Entity],
@@ -118,7 +119,7 @@ fn next_device(
     }
 }
 
-// Returns the device of each choice among the entities, or the first fault.
+// Returns the device of each choice among the entities, in order, or the first fault.
 fn chosen_devices(
     alloc: Global,
     entities: &[Entity],
@@ -167,8 +168,8 @@ fn packages<'a>(alloc: Global, lines: &'a [ChainLine]) -> Result<Vec<Option<&'a 
     Ok(list)
 }
 
-// Returns the choices of the DEVICE lines, in order. A choice is the number of a text, and the
-// package if the line has one.
+// Returns the choices of the DEVICE lines, in order. A choice is the number of a text, from
+// `numbers`, and the package if the line has one.
 fn chosen<'a>(
     alloc: Global,
     lines: &'a [ChainLine],
@@ -199,7 +200,8 @@ fn zipped<'a>(
     Ok(list)
 }
 
-// Returns the number of the text that each DEVICE line selects, in order.
+// Returns the number of the text that each DEVICE line selects, in order, or the first fault of the
+// chain.
 fn numbers(alloc: Global, file: &ChainFile, entities: &[Entity]) -> Result<Vec<u32>, InputFault>
     requires { length entities.now < 2 ^ 32 }
     ensures numbers { Gives input_told (λ numbers. numbers.items)
@@ -216,8 +218,8 @@ fn numbers(alloc: Global, file: &ChainFile, entities: &[Entity]) -> Result<Vec<u
     }
 }
 
-// Returns the devices of the DEVICE lines, in order. `numbers` has the number of the text for each
-// of these lines.
+// Returns the devices of the DEVICE lines, in order, or the first fault. `numbers` has the number
+// of the text for each of these lines.
 fn devices_by(
     alloc: Global,
     lines: &[ChainLine],
@@ -235,7 +237,8 @@ fn devices_by(
     chosen_devices(alloc, entities, &chosen)
 }
 
-// Returns the devices that the DEVICE lines select among the entities, in order.
+// Returns the devices that the DEVICE lines select among the entities, in order, or the first
+// fault.
 fn selected_devices(
     alloc: Global,
     file: &ChainFile,
@@ -255,7 +258,8 @@ fn selected_devices(
 }
 
 /// Returns the devices of the DEVICE lines of a chain, in order, or the first fault. Looks for
-/// faults in this order: the texts, the board rules on the chain, and the devices.
+/// faults in this order: the texts, the board rules on the chain, and the devices. Each text must
+/// have fewer than 2^32 bytes, and there must be fewer than 2^32 texts.
 pub(crate) fn devices(
     alloc: Global,
     file: &ChainFile,

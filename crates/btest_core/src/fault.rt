@@ -1,4 +1,4 @@
-// The reasons for which texts denote no device, no chain or no board.
+// The faults of the texts of a device, a chain or a board.
 ghost use Rattle.std.specs.Prelude.{◌≡◌, alloc_error};
 ghost use Rattle.btest_core.specs.declared.fault.InputFault.TheVariants.{Memory};
 
@@ -11,7 +11,8 @@ use series_parts::LinkFault;
 use std::alloc::{AllocError, AllocFailed};
 use thiserror::Error;
 
-/// The first fault of the texts, or lack of memory. Lack of memory in any crate is `Memory`.
+/// The first fault of the texts, or lack of memory. Lack of memory in a lower crate also becomes
+/// `Memory`.
 #[derive(Debug, Drop, Error)]
 pub enum InputFault {
     /// The chain file's first faulty line.
@@ -20,11 +21,12 @@ pub enum InputFault {
     /// The net file's first faulty line.
     #[error("{0}")]
     Nets(LineFault),
-    /// The first bad place of a BSDL text. The texts are numbered from 0 in the order in which the
+    /// The point at which the lexer stops in a BSDL text: a byte that begins no token, an unclosed
+    /// string, or a token beyond the limit. The texts are numbered from 0 in the order in which the
     /// caller gives them.
     #[error("{fault}")]
     Lex { text: u32, fault: LexFault },
-    /// The reason for which the tokens of a BSDL text derive no entity.
+    /// The reason why the tokens of a BSDL text derive no entity.
     #[error("{fault}")]
     Parse { text: u32, fault: ParseFault },
     /// The first board rule that fails.
@@ -36,8 +38,8 @@ pub enum InputFault {
     /// The first LINK pin that is in no net.
     #[error("{0}")]
     Link(LinkFault),
-    /// The number of the chain file's first BYPASS line. Its part has no description, so it is not
-    /// known which register the part selects after a reset.
+    /// The number of the chain file's first BYPASS line. Its part has no BSDL description, so it is
+    /// not known which register the part selects after a reset.
     #[error("line {0}: part without a description")]
     NoIdent(u32),
     #[error("out of memory")]

@@ -40,7 +40,7 @@ fn idents_of(alloc: Global, devices: &[Device]) -> Result<Vec<Option<Code>>, All
     Ok(idents)
 }
 
-// Returns whether the line is a BYPASS line. The part on such a line has no description.
+// Returns whether the line is a BYPASS line. The part on such a line has no BSDL description.
 fn is_bypass(statement: &ChainStatement) -> bool
     ensures { result ≡ is_bypass statement.now }
 {
@@ -59,8 +59,8 @@ fn first_bypass(lines: &[ChainLine]) -> Option<u32>
     None
 }
 
-// Returns the patterns of the devices, or the fault of the chain's first part without a
-// description.
+// Returns the patterns of the devices, or the fault `NoIdent` with the number of the first BYPASS
+// line if there is one.
 fn idents_unless_bypass(
     alloc: Global,
     file: &ChainFile,
@@ -104,7 +104,8 @@ fn file_idents(
 
 /// Returns the patterns of the identification codes of a chain's parts, in the order from TDI to
 /// TDO. There are 1 to 255 items. An item is a pattern of 32 symbols, or `None` for a device
-/// without such a code.
+/// without such a code. Each text must have fewer than 2^32 bytes, and there must be fewer than
+/// 2^32 BSDL texts.
 ///
 /// Otherwise returns the first fault. Looks for faults in this order: the chain file, the BSDL
 /// texts, the board rules on the chain, and the devices of its DEVICE lines. If there is none of

@@ -1,4 +1,5 @@
-//! Laws of the definitions. Each law is the contract of a function that does nothing.
+//! Laws of the definitions. A law is a property that holds for all texts, stated as the contract of
+//! a function that does nothing.
 ghost use Rattle.std.specs.Prelude.{◌≡◌, ◌<◌, ◌≤◌, ℕ, List, Result, Ok, All, IfSome, length};
 ghost use Rattle.board_defs.specs.Limits.{most_parts};
 ghost use Rattle.board_defs.specs.declared.board.RawBoard.{RawBoard};
@@ -16,8 +17,8 @@ use bsdl_lexer::law::texts_have_one_answer;
 use bsdl_parser::law::token_lists_have_one_answer;
 use device_check::law::{entities_have_one_answer, sound_devices_keep_rules};
 
-/// Texts have exactly one answer for a device, for the instruction lengths of a chain, for its
-/// identification codes, and for a board.
+/// For all texts there is exactly one answer for the device, for the instruction lengths of the
+/// chain, for its identification codes, and for the board. An answer is a value or the first fault.
 pub fn inputs_have_one_answer()
     ensures some_device { (text : List ℕ)
         → (answer : Result RawDevice InputFault) × IsDeviceText text answer }

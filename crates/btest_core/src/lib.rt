@@ -1,4 +1,5 @@
-//! Finds what the texts of a board denote, or the first fault in them.
+//! Reads the texts of a board: the chain file, the net file and the BSDL texts. Finds what they
+//! denote, or their first fault.
 #![tactic(auto)]
 
 mod board;

@@ -25,7 +25,7 @@ pub fn plan(alloc: Global, board: &Board, classes: &Classes) -> Result<Plan, All
     plan_by(alloc, board, pins, classes)
 }
 
-/// Like `plan`, but takes ownership of `pins`, the pins of the board's nets.
+/// Like `plan`, but takes ownership of `pins`, which must be the pins of the board's nets.
 pub fn plan_by(
     alloc: Global,
     board: &Board,

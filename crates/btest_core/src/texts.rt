@@ -12,7 +12,7 @@ use bsdl_parser::{Entity, ParseFault, parse};
 use std::alloc::Global;
 
 /// Returns the entity that a BSDL text describes, or the text's first fault. `text` is the number
-/// of the text, which the fault has.
+/// of the text, which the fault reports. The text must have fewer than 2^32 bytes.
 pub fn read_entity(alloc: Global, bytes: &[u8], text: u32) -> Result<Entity, InputFault>
     requires { length bytes.now < 2 ^ 32 }
     ensures read { Gives input_told (λ entity. entity) (IsEntityOf bytes.now text) result }
@@ -27,7 +27,7 @@ pub fn read_entity(alloc: Global, bytes: &[u8], text: u32) -> Result<Entity, Inp
     }
 }
 
-// Returns the tokens of a BSDL text, or the fault of the text's first bad place.
+// Returns the tokens of a BSDL text, or the fault of the point at which the lexer stops.
 fn tokens_of(alloc: Global, bytes: &[u8], text: u32) -> Result<Vec<Token>, InputFault>
     requires { length bytes.now < 2 ^ 32 }
     ensures tokens { IfOk result (λ tokens. AreTokens bytes.now tokens.items) }
@@ -41,7 +41,9 @@ fn tokens_of(alloc: Global, bytes: &[u8], text: u32) -> Result<Vec<Token>, Input
     }
 }
 
-/// Returns the entities that BSDL texts describe, or the first fault of the first text that has a fault.
+/// Returns the entities that BSDL texts describe, in order, or the first fault of the first text
+/// that has a fault. Each text must have fewer than 2^32 bytes, and there must be fewer than 2^32
+/// texts.
 pub(crate) fn entities(alloc: Global, texts: &[Vec<u8>]) -> Result<Vec<Entity>, InputFault>
     requires each { All (λ text. length text.items < 2 ^ 32) texts.now }
     requires count { length texts.now < 2 ^ 32 }

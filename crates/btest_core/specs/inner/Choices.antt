@@ -1,4 +1,5 @@
--- Choices with borrowed packages, and lists of devices that belong to choices.
+-- Choices with borrowed packages, and lists of devices that belong to choices. A choice is the
+-- number of a text and a package.
 use Rattle.std.specs.Prelude.{◌≡◌, ℕ, List, Option, Some, Ok, map, option_copied, slice_get}
 use Rattle.std.specs.Borrow.{Bor}
 use Rattle.board_defs.specs.declared.device.RawDevice.{RawDevice}
@@ -12,7 +13,7 @@ Lent = ℕ × Option (Bor (List ℕ))
 abbrev pub choices_of : List Lent → List Chosen
 choices_of chosen = map (λ choice. (choice.0, option_copied choice.1)) chosen
 
--- the device at each place belongs to the choice at the same place
+-- each device belongs to the choice with the same index
 abbrev pub AreOfChoices : List Entity → List Chosen → List RawDevice → Type 0
 AreOfChoices entities choices devices =
     (i : ℕ) (choice : Chosen) (device : RawDevice) → slice_get choices i ≡ Some choice

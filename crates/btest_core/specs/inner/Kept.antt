@@ -9,8 +9,8 @@ use Rattle.board_lines.specs.Names.{named}
 use Rattle.board_lines.specs.declared.names.Naming.TheVariants.{Entity as EntityName}
 use Rattle.series_parts.specs.declared.joining.Joined.{Joined}
 
--- If the chain file has the property of `is_chain` or of `lengths`, the joined chain file has the
--- property, too. Both files name the same entities.
+-- The joined chain file keeps the properties `is_chain` and `lengths` of the chain file, and names
+-- the same entities.
 pub record Kept (chain : List ChainLine) (nets : List NetLine) (joined : Joined) : Type 0 where
   pub is_chain : IsChain chain → IsChain joined.chain
   pub lengths : AllByRecursion (λ line. HasBypassLength line.statement) chain

@@ -3,8 +3,8 @@ use Rattle.bsdl_parser.specs.Entity.{HaveKinds, IsSmall}
 use Rattle.btest_core.proofs.TextLemmas.{CompletesTexts, numbered}
 use Rattle.btest_core.proofs.texts.entities.Given as goal
 
--- the list has the entities of the texts visited so far; with the entities of the remaining texts
--- appended, the list is the answer
+-- the list has the entities of the texts visited so far; followed by the entities of the remaining
+-- texts, it is the answer
 abbrev pub invariant-loop-text : goal.invariant-loop-text
 invariant-loop-text l = record {
   read : CompletesTexts l.texts (numbered l.text (drop l.text l.texts)) l.entities.items;
