@@ -1,4 +1,4 @@
-//! The program, run on the words of the command line, the files and the standard streams.
+//! The program. Runs the words of the command line on the files and the standard streams.
 #![tactic(auto)]
 
 use host_start::start;

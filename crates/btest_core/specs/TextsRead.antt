@@ -20,8 +20,8 @@ pub record IsEntity (text : List ℕ) (entity : Entity) : Type 0 where
   pub are : AreTokens text tokens
   pub derives : Derives (lexemes text tokens) entity
 
--- `fault` describes the point at which the lexer stops: a byte that begins no token, an unclosed
--- string, or a token beyond the limit
+-- `fault` describes the point at which the lexer stops: a byte that begins no blank, comment or
+-- token, an unclosed string, or a token beyond the limit
 pub record IsLexFault (text : List ℕ) (fault : LexFault) : Type 0 where
   pub tokens : List Token
   pub stops : lexer.IsLexerFault text tokens fault

@@ -21,9 +21,9 @@ pub enum InputFault {
     /// The net file's first faulty line.
     #[error("{0}")]
     Nets(LineFault),
-    /// The point at which the lexer stops in a BSDL text: a byte that begins no token, an unclosed
-    /// string, or a token beyond the limit. The texts are numbered from 0 in the order in which the
-    /// caller gives them.
+    /// The point at which the lexer stops in a BSDL text: a byte that begins no blank, comment or
+    /// token, an unclosed string, or a token beyond the limit. The texts are numbered from 0 in the
+    /// order in which the caller gives them.
     #[error("{fault}")]
     Lex { text: u32, fault: LexFault },
     /// The reason why the tokens of a BSDL text derive no entity.

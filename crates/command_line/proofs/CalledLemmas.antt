@@ -1,4 +1,4 @@
--- The command of a subcommand, by its name.
+-- Lemmas about the command that the name and the rows of a subcommand give.
 use Rattle.std.proofs.Common.{◌≡◌, refl, sym, ap, ◌∙◌, Bool, true, false, List, codes, Option, Some, None}
 use Rattle.std.specs.Prelude.{option_map, if◌then◌else◌}
 use Rattle.std.specs.Str.{bytes_eq}
@@ -26,7 +26,7 @@ pub called_other : (name : Text) (rows : List Row) → bytes_eq (codes "chain") 
     → board_found name rows ≡ called_found name rows
 called_other name rows chain ident device = sym (if_not _ _ _ chain ∙ if_not _ _ _ ident ∙ if_not _ _ _ device)
 
--- the command in the matches is the command of the subcommand's name and rows
+-- if `found` has this name and these rows, the command in `found` is the command that they give
 pub called_by : {S : Type 0} (of : S → Text × List Row) (found : Option S) (name : Text)
     (rows : List Row) → Some name ≡ option_map (λ s. (of s).0) found
     → Some rows ≡ option_map (λ p. p.1) (option_map of found)

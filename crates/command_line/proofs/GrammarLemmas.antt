@@ -1,4 +1,4 @@
--- The command with an argument for each word, from the command with one word less.
+-- Lemmas about a loop that adds an argument for each word to a command.
 use Rattle.std.proofs.Common.{◌≡◌, ◌<◌, ◌+◌, ℕ, suc, List, [], ◌∷◌, ◌∙◌, length, map, take, slice_index_or, sym, ap, arith}
 use Rattle.std.specs.Borrow.{Bor}
 use Rattle.std.proofs.Math.Seq.{take-suc}
@@ -11,7 +11,7 @@ use Rattle.command_line.specs.Words.{Text}
 abbrev pub now_of : Bor Text → Text
 now_of word = word.now
 
--- the command with the first `k` words and word `k` is the command with the first `k + 1` words
+-- one step of the loop: the argument for word `k` is added
 pub one_more : (name : Text) (words : List (Bor Text)) (k : ℕ) (d : Bor Text) → k < length words
     → with_word (worded_app name (map now_of (take k words))) (now_of (slice_index_or words k d))
     ≡ worded_app name (map now_of (take (k + 1) words))

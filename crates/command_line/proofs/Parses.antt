@@ -1,4 +1,5 @@
--- Lemmas about the command that `clap` finds in words that are not flags.
+-- Lemmas about the command that `clap` finds in words that are not flags. A walk is the state of
+-- `clap` after it has read some words.
 use Rattle.std.proofs.Common.{◌≡◌, refl, sym, ap, subst, ◌∙◌, true, false, Bool, List, [], ◌∷◌, ◌++◌, codes, ℕ, cond, Option, Some, None, inl, inr, ◌⊎◌, append_assoc, append-nil}
 use Rattle.std.specs.Prelude.{fold, is_some, not, ◌||◌, find, unwrap_or, option_map, option_and_then, length, nat_le, if◌then◌else◌, slice_get}
 use Rattle.std.specs.List.{list_all}
@@ -49,7 +50,8 @@ shape_in app = unwrap_or (slice_get (built (with_subcommand top_app app.top)).su
 abbrev many_app : Text → List Text → App
 many_app name words = with_rule (worded_app name words) names_rule
 
--- the faults of the program's command after all words, if `w` is the walk after them
+-- the faults that `clap` finds in the program's command at the end, if `w` is the walk after all
+-- words
 abbrev whole_fault : Turns → Kinds
 whole_fault w = end_fault top w (is_some (entered built_app w.stopped)) (entered_fault built_app w.stopped)
 
@@ -63,7 +65,7 @@ fault_parts words = refl
 abbrev answer : List Text → Option Command
 answer words = if_none (fault_of btest_app words) (command_in (subcommand_of btest_app words))
 
--- the walk after it has met the subcommand `name`, to which `words` go
+-- the walk after the subcommand `name`, which takes all later words, and the words `words`
 abbrev stopped_at : Text → List Text → Turns
 stopped_at name words = record start { stopped = Some (name, words) }
 
@@ -88,11 +90,11 @@ record Enters (name : Text) (shape : Shape) : Type 0 where
   finds : (rest : List Text) → entered built_app (Some (name, rest)) ≡ Some (name, rows_after shape.rules [] rest)
   no_trail : list_all (λ a. not a.trailing_var_arg) shape.rules ≡ true
 
--- if each word goes to the positional argument at its place, `read` finds in the matches the command that `command` makes of the words
+-- if each word goes to the positional argument at its position, `read` finds in the rows the
+-- command that `command` makes of the words
 abbrev Reads : Shape → (List Row → Option Command) → (List Text → Option Command) → Type 0
 Reads shape read command = (words : List Text) → placed_from shape read start words ≡ command words
 
--- if there are no faults after the faults `k`, only `k` decides whether there is a command
 alone : (k : Kinds) (command : Option Command) → if_none (or_else k []) command ≡ if_none k command
 alone [] command = refl
 alone (k ∷ ks) command = refl

@@ -1,4 +1,5 @@
--- Lemmas which say that `clap` gives the plain words of a command to its positional arguments in turn.
+-- Lemmas which say that `clap` gives the plain words of a command to its positional arguments in
+-- turn. A walk is the state of `clap` after it has read some words.
 use Rattle.std.proofs.Common.{◌≡◌, refl, sym, ap, subst, ◌∙◌, true, false, Bool, List, [], ◌∷◌, ◌++◌, codes, cond, ℕ, Option, Some, None, append_assoc}
 use Rattle.std.specs.Prelude.{find, fold, not}
 use Rattle.std.specs.List.{list_all}
@@ -15,7 +16,7 @@ use Rattle.clap.proofs.OnLiterals.{clap_on_literals}
 use Rattle.command_line.specs.Words.{Command}
 use Rattle.command_line.proofs.PlainLemmas.{AllPlain, before, placed, plain_turn, plain_walked}
 
--- the faults at the end of a level, if `w` is the walk at its end
+-- the faults that `clap` finds at the end of the words of a command, if `w` is the walk at the end
 abbrev pub end_fault : Shape → Walk → Bool → Kinds → Kinds
 end_fault s w has_subcommand below =
     or_else below (or_else (settle_fault s.rules s.args_override_self w.held)
@@ -33,15 +34,16 @@ placed_fault s w [] = []
 placed_fault s w (word ∷ rest) = or_else (step_fault s w.position w.held value) (placed_fault s (placed s.rules w word) rest)
 
 module _ (s : Shape) (read : List Row → Option Command) where
-  -- the command that is read at the end of a walk, or `None` if there is a fault during the walk or at its end
+  -- the command that `read` finds at the end of a walk, or `None` if there is a fault during the
+  -- walk or at its end
   abbrev pub answer_at : Kinds → Walk → Option Command
   answer_at fault end = if_none (or_else fault (end_fault s end false [])) (read (finished s.rules end.held))
 
-  -- the command that is read after the walk over these words
+  -- the command that `read` finds after the walk over these words
   abbrev pub answer_from : Walk → List Text → Option Command
   answer_from w words = answer_at (walk_fault s [] w words) (fold (walked s.rules []) w words)
 
-  -- like `answer_from`, but each word goes to the positional argument at its place
+  -- like `answer_from`, but each word goes to the positional argument at its position
   abbrev pub placed_from : Walk → List Text → Option Command
   placed_from w words = answer_at (placed_fault s w words) (fold (placed s.rules) w words)
 
@@ -59,7 +61,8 @@ no_trail (a ∷ rest) p all =
     let parts = and_parts (not a.trailing_var_arg) (list_all (λ a. not a.trailing_var_arg) rest) all in
     by_test (p a) a (find p rest) (not-true a.trailing_var_arg parts.0) (no_trail rest p parts.1)
 
--- The walk gives each word to the positional argument at the word's place, and its faults are the faults of these steps.
+-- The walk gives each word to the positional argument at the word's position, and its faults are
+-- the faults of these steps.
 abbrev ArePlaced : Shape → Walk → List Text → Type 0
 ArePlaced s w words =
     (fold (walked s.rules []) w words ≡ fold (placed s.rules) w words)

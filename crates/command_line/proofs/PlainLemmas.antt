@@ -1,4 +1,5 @@
--- Lemmas about words that are not flags. `clap` gives each of them to the positional argument at its place.
+-- Lemmas about plain words, which are not flags. `clap` gives each of them to the positional
+-- argument at its position. A walk is the state of `clap` after it has read some words.
 use Rattle.std.proofs.Common.{◌≡◌, ap, ◌∙◌, true, false, Bool, List, [], ◌∷◌, ℕ, nat_eq, Some, None}
 use Rattle.std.specs.Prelude.{option_and_then, if◌then◌else◌}
 use Rattle.std.specs.List.{list_all}

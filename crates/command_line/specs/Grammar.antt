@@ -1,14 +1,14 @@
 -- The grammar of the command line: the commands and their words, in the order of the usage line.
 use Rattle.std.specs.Prelude.{ℕ, Bool, true, false, List, [], ◌∷◌, ◌++◌, codes, map}
 
--- A command: its name, the words after the name, and whether any number of BSDL file names follow these words. The capital words are the ids
--- that `clap` gets for the words.
+-- A command: its name, the words after the name, and whether any number of BSDL file names follow
+-- these words. The words are in capitals, and are the ids of the command's arguments in `clap`.
 pub record Entry : Type 0 where
   pub name : List ℕ
   pub words : List (List ℕ)
   pub has_names : Bool
 
--- the words of a board
+-- the words for a board: its chain file and its net file
 abbrev pub board_words : List (List ℕ)
 board_words = codes "CHAIN" ∷ codes "NETS" ∷ []
 

@@ -13,11 +13,7 @@ use Rattle.command_line.specs.Limits.{most_names, most_made, most_workers}
 abbrev pub Text : Type 0
 Text = List ℕ
 
--- The command of a command line has the names of its files. The length test and the identity test of a chain have the file names of the
--- chain. The listing of a device has the name of a BSDL file. The coverage list, the test and the walking test of a board have the file
--- names of the board. The summary of a generated board has the number of parts of the board. The diagnosis of a board and the diagnoses of
--- many boards have the number of workers, the name of a file of response logs and the file names of the board. The groups of shorted nets
--- have the name of a response log and the file names of the board.
+-- a command with the names of the files that it reads
 abbrev pub Command : Type 0
 Command = CommandOf Text (List Text)
 
@@ -48,7 +44,8 @@ number_of most word =
     if list_all is_ascii_digit word && is_within 1 20 (length word)
     && is_within 1 most (digits_value 10 word) then Some (digits_value 10 word) else None
 
--- the file names of a chain that these words give: a chain file, then any number of BSDL names
+-- the file names of a chain that these words give: a chain file, then BSDL names; `None` if there
+-- are more than 255 BSDL names
 abbrev pub chain_of : List Text → Option ChainNames
 chain_of [] = None
 chain_of (chain ∷ names) = with_names names (record { chain = chain; bsdl = names })
@@ -59,7 +56,8 @@ device_of [] = None
 device_of (name ∷ []) = Some (Device name)
 device_of (name ∷ other ∷ others) = None
 
--- the file names of a board that these words give: a chain file and a net file, then any number of BSDL names
+-- the file names of a board that these words give: a chain file and a net file, then BSDL names;
+-- `None` if there are more than 255 BSDL names
 abbrev pub board_names_of : List Text → Option BoardNames
 board_names_of [] = None
 board_names_of (chain ∷ []) = None
@@ -91,14 +89,15 @@ abbrev pub groups_of : List Text → Option Command
 groups_of [] = None
 groups_of (log ∷ names) = option_map (Groups log) (board_names_of names)
 
--- the command with this name and these words, if commands with this name read response logs
+-- the command with this name and these words, if the name is `diagnose`, `groups` or `batch`; these
+-- commands read response logs
 unfoldable pub log_called : Text → List Text → Option Command
 log_called word rest =
     if bytes_eq (codes "diagnose") word then diagnose_of rest else
     if bytes_eq (codes "groups") word then groups_of rest else
     if bytes_eq (codes "batch") word then batch_of rest else None
 
--- the command with this name and these words, if the name is not `chain`, `ident` or `device`
+-- the command with this name and these words, for all names except `chain`, `ident` and `device`
 unfoldable pub board_called : Text → List Text → Option Command
 board_called word rest =
     if bytes_eq (codes "cover") word then option_map Cover (board_names_of rest) else

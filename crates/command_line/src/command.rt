@@ -1,7 +1,8 @@
 // The commands of the program.
 use crate::number::{PartCount, WorkerCount};
 
-/// What a command has for each file of a chain.
+/// The files of a chain. A `File` is the name or the text of one file, and a `Files` has those of
+/// the BSDL files.
 #[derive(Drop)]
 pub struct ChainFiles<File, Files> {
     /// The chain file.
@@ -10,7 +11,8 @@ pub struct ChainFiles<File, Files> {
     pub bsdl: Files,
 }
 
-/// What a command has for each file of a board.
+/// The files of a board. A `File` is the name or the text of one file, and a `Files` has those of
+/// the BSDL files.
 #[derive(Drop)]
 pub struct BoardFiles<File, Files> {
     /// The chain file.
@@ -21,8 +23,8 @@ pub struct BoardFiles<File, Files> {
     pub bsdl: Files,
 }
 
-/// A command, with a `File` for each file that it reads and a `Files` for its list of BSDL files. These are names if the
-/// command comes from the command line, and texts once the files are read.
+/// A command, with a `File` for each file that it reads and a `Files` for its list of BSDL files.
+/// These are names in a command from the command line, and texts after the files are read.
 #[derive(Drop)]
 pub enum Command<File, Files> {
     /// Writes the test of the length of a chain.

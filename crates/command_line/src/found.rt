@@ -13,8 +13,8 @@ use crate::number::{PartCount, WorkerCount};
 use clap::ArgMatches;
 use std::alloc::{AllocError, Global};
 
-/// Returns the command that `clap` found, or `None` if a number is out of range or there are more than 255 BSDL names. The only error is
-/// lack of memory.
+/// Returns the command that `clap` found. Returns `None` if a number is out of range or there are
+/// more than 255 BSDL names. The only error is lack of memory.
 pub fn command_in<'a>(
     alloc: Global,
     matches: &ArgMatches<'a>,
@@ -27,7 +27,7 @@ pub fn command_in<'a>(
     }
 }
 
-// Returns the command of the subcommand with this name.
+// Returns the command of the subcommand with this name, or `None` if its values form no command.
 fn command_called<'a>(
     alloc: Global,
     name: &str,
@@ -46,7 +46,8 @@ fn command_called<'a>(
     }
 }
 
-// Returns the command of the subcommand with this name, if the name is not `chain`, `ident` or `device`.
+// Returns the command of the subcommand with this name. Handles all names except `chain`, `ident`
+// and `device`.
 #[tactic(auto, unfolding(crate::specs::inner::Found::board_found))]
 fn board_called<'a>(
     alloc: Global,
@@ -68,7 +69,8 @@ fn board_called<'a>(
     }
 }
 
-// Returns the command of the subcommand with this name, if the subcommand works on response logs.
+// Returns the command of the subcommand with this name, if it is `diagnose`, `groups` or `batch`.
+// These read response logs.
 #[tactic(auto, unfolding(crate::specs::inner::Found::log_found))]
 fn log_called<'a>(
     alloc: Global,

@@ -1,4 +1,5 @@
-// The program's command for `clap`: the commands of the grammar as subcommands, with their words as arguments.
+// Builds the program's command for `clap`. Each command of the grammar is a subcommand, and its
+// words are the arguments.
 ghost use Rattle.std.specs.Prelude.{◌≡◌, false, map, take, IfOk};
 ghost use Rattle.clap.specs.Simple.{App, app_of, with_rule, with_subcommand};
 ghost use Rattle.clap.specs.Walk.{rule_of};
@@ -25,8 +26,9 @@ fn names_arg<'a>(alloc: Global) -> Arg<'a>
     Arg::new(alloc, "BSDL").action(ArgAction::Append)
 }
 
-// Adds an argument that takes exactly one word to a command. Like the next functions, `with_word` takes the command as
-// a result and passes on an error. So its callers need no `?`: each `?` costs the proof of a caller several seconds.
+// Adds an argument that takes exactly one word to a command. The command must have no global
+// argument. Takes the command as a result and passes on an error, so that a caller needs no `?`:
+// each `?` costs the caller's proof several seconds.
 fn with_word<'a>(
     alloc: Global,
     command: Result<clap::Command<'a>, AllocError>,
@@ -41,6 +43,7 @@ fn with_word<'a>(
 }
 
 // Adds the argument for any number of BSDL file names, after the other arguments of the command.
+// The command must have no global argument.
 fn with_names<'a>(
     alloc: Global,
     command: Result<clap::Command<'a>, AllocError>,
@@ -99,6 +102,7 @@ fn top_command<'a>(alloc: Global) -> clap::Command<'a>
 }
 
 // Adds a subcommand to a command. Takes both commands as results, and passes on an error of either.
+// Neither may have a global argument.
 fn with_made<'a>(
     command: Result<clap::Command<'a>, AllocError>,
     made: Result<clap::Command<'a>, AllocError>,

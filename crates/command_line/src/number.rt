@@ -36,7 +36,8 @@ impl Model for PartCount {
 }
 
 impl PartCount {
-    /// Returns the number of parts that a word denotes, or `None` if the word is no number from 1 to 255.
+    /// Returns the number of parts that a word denotes, or `None` if the word is not a number from
+    /// 1 to 255.
     pub fn of_word(word: &str) -> Option<PartCount>
         ensures { result ≡ number_of most_made word.now }
     {
@@ -74,7 +75,8 @@ impl Model for WorkerCount {
 }
 
 impl WorkerCount {
-    /// Returns the number of workers that a word denotes, or `None` if the word is no number from 1 to 64.
+    /// Returns the number of workers that a word denotes, or `None` if the word is not a number
+    /// from 1 to 64.
     pub fn of_word(word: &str) -> Option<WorkerCount>
         ensures { result ≡ number_of most_workers word.now }
     {

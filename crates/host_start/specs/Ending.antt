@@ -11,7 +11,9 @@ use Rattle.btest_cli.specs.ExitNumbers.{exit_number}
 use Rattle.btest_cli.specs.Texts.{Held}
 use Rattle.btest_cli.specs.Outcome.{AsksSome, ForCommand, IsComplete, IsCutShort, IsDone, IsNotRead, IsRefused, SomeRose, TookOrCut}
 
--- The words were run on this store, with these sinks for the text and for the line of refusal. `number` is the exit number of the status.
+-- How a run of these words ended. `held` has the texts of the store. `before` and `now`, `asked`
+-- and `asked'`, `out` and `out'`, and `notes` and `notes'` are states before and after the run.
+-- `number` is the exit number of the status `ended`.
 pub record IsEndOf (words : List (String Global)) (held : Held) (before now : Text → ℕ)
     (asked asked' : List Text) (out out' notes notes' : Shown) (number : ℕ) : Type 0 where
   pub ended : Status

@@ -1,5 +1,5 @@
-//! The program over the real files and streams. It passes the words of its command line to `run`, and exits with the number of the status
-//! that `run` returns. The program itself is one call of this crate.
+//! Starts the program on the real files and streams. `start` passes the words of the command line
+//! to `run`, and exits with the number of the status that `run` returns.
 #![tactic(auto)]
 
 ghost use Rattle.std.specs.Prelude.{◌≡◌, ◌≢◌, IfErr, IfOk, IsErr};
@@ -26,7 +26,8 @@ fn words(rt: &(impl Env + AllocGlobal)) -> io::Result<Vec<String>> {
     Ok(words)
 }
 
-// Runs these words. The text goes to `out`, and the line of refusal to `notes`. Returns the exit status.
+// Runs these words, and returns the exit status. The text goes to `out`, and a line for standard
+// error to `notes`.
 fn end_with<R: Threads + Sync, S: Store, K: Sink, N: Sink>(
     rt: &R,
     alloc: Global,
@@ -55,8 +56,8 @@ fn end_without<N: Sink>(error: &io::Error, notes: &mut N) -> u8
     Status::Usage.number()
 }
 
-// Returns the exit status for the words from the system. If the system cannot give the words, for example because they are not UTF-8, they
-// count as no command.
+// Runs the words from the system, and returns the exit status. If the system cannot give the words,
+// for example because they are not UTF-8, calls `end_without` instead.
 fn end_of<R: Threads + Sync, S: Store, K: Sink, N: Sink>(
     rt: &R,
     alloc: Global,
@@ -65,11 +66,11 @@ fn end_of<R: Threads + Sync, S: Store, K: Sink, N: Sink>(
     out: &mut K,
     notes: &mut N,
 ) -> u8
-    // If the system gave words, these words were run.
+    // If the system gave words, this is the end of a run of these words.
     ensures run { IfOk words.now (λ words. IsEndOf words.items (S.held store.old) (S.faults store.old) (S.faults store.new) (S.asked store.old) (S.asked store.new)
         (K.shown out.old) (K.shown out.new) (N.shown notes.old) (N.shown notes.new) result) }
 
-    // If the system gave no words, the run asked for no text.
+    // If the system gave no words, nothing was read, and nothing was written to `out`.
     ensures no_words { IfErr words.now (λ error. error_kind error ≢ ErrorKind.OutOfMemory
         → (result ≡ 2) × TookOrCut (N.shown notes.old) (N.shown notes.new) usage_line) }
     ensures no_memory { IfErr words.now (λ error. error_kind error ≡ ErrorKind.OutOfMemory
@@ -83,8 +84,8 @@ fn end_of<R: Threads + Sync, S: Store, K: Sink, N: Sink>(
     }
 }
 
-/// Runs the words of the command line on the files of the system and on standard output. `notes` takes the line of refusal. The number of
-/// the status is the exit status.
+/// Runs the words of the command line on the files of the system and on standard output. Writes a
+/// line for standard error to `notes`. The number of the status is the exit status.
 pub fn start<R, E>(rt: &R, notes: E) -> ExitCode
 where
     R: AllocGlobal + Env + Files + Print + Sync + Threads,

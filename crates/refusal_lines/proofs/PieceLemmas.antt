@@ -5,7 +5,7 @@ use Rattle.line_printer.proofs.PrintLemmas.{whole-split}
 use Rattle.refusal_lines.specs.Refusals.{Text}
 use Rattle.line_printer.specs.Prints.{whole}
 
--- if the put of the first piece succeeds, the sink took this piece and no other piece
+-- if writing the first piece succeeds, the sink took this piece and no other piece
 pub puts_first : {E : Type 0} {old mid : Shown} {first : Text} {r : Result (Unit {0}) E}
     {x : Unit {0}} → Puts old mid first r → r ≡ Ok x
     → Puts {T = Unit {0}} {E = E} old mid (first ++ []) (Ok tt)
@@ -13,7 +13,8 @@ puts_first {E} {old} {mid} {first} {r} {x} put ok =
     subst (λ (t : Text). Puts {T = Unit {0}} {E = E} old mid t (Ok tt)) (sym (append-nil first))
     (subst (λ (q : Result (Unit {0}) E). Puts old mid first q) ok put)
 
--- The whole text is the first piece, the other pieces before place `i`, the piece at place `i`, and the pieces after place `i`.
+-- The whole text is the first piece, the other pieces before index `i`, piece `i`, and the pieces
+-- after it.
 pub whole-from : (first : Text) (others : List (Bor Text)) (i : ℕ) (d : Bor Text) → i < length others
     → first ++ whole (map (λ p. p.now) others)
     ≡ (first ++ whole (map (λ p. p.now) (take i others)))

@@ -1,4 +1,4 @@
--- The names of a command's texts, as the definitions see them.
+-- The names of a command's texts, as lists of bytes.
 use Rattle.std.specs.Prelude.{List, [], ◌∷◌, map}
 use Rattle.refusal_lines.specs.declared.names.Names.{Names as Lent}
 use Rattle.refusal_lines.specs.declared.names.TextNames.{TextNames}

@@ -38,7 +38,7 @@ write_line = codes "cannot write\n"
 abbrev pub memory_line : Text
 memory_line = codes "out of memory\n"
 
--- the text with the name of a text and what is wrong with it
+-- the name of a text, followed by what is wrong with the text
 abbrev pub about : Text → Text → Text
 about name wrong = whole (name ∷ wrong ∷ [])
 
@@ -93,14 +93,14 @@ board_fault_line names (board.NoPullNet spot) = at_line names.chain spot.line (c
 board_fault_line names (board.PullTwice spot) = at_line names.chain spot.line (codes ": net pulled twice\n")
 board_fault_line names (board.Memory e) = memory_line
 
--- the line for the first fault of a BSDL text's tokens
+-- the line for the point of a BSDL text at which the lexer stops
 abbrev pub lex_fault_line : Text → LexFault → Text
 lex_fault_line name (lex.Byte n) = at_line name n (codes ": byte not allowed\n")
 lex_fault_line name (lex.OpenString n) = at_line name n (codes ": string not closed\n")
 lex_fault_line name (lex.TooMany n) = at_line name n (codes ": too many tokens\n")
 lex_fault_line name (lex.Memory e) = memory_line
 
--- the line for the first token that is not allowed in a BSDL text
+-- the line for the first point at which a BSDL text leaves the grammar
 abbrev pub parse_fault_line : Text → ParseFault → Text
 parse_fault_line name (parse.Expected n) = at_line name n (codes ": not in the grammar\n")
 parse_fault_line name (parse.Package n) = at_line name n (codes ": package text\n")
@@ -114,7 +114,8 @@ rule_line name number item = whole (name ∷ codes ": rule V" ∷ decimal number
 abbrev pub string_line : Text → ℕ → ℕ → Text
 string_line name attribute entry = whole (name ∷ codes ": " ∷ string_name attribute ∷ codes " entry " ∷ decimal entry ∷ codes "\n" ∷ [])
 
--- the line for the first rule or string of a device that fails
+-- the line for the first rule that a device breaks, or the first of its strings that leaves its
+-- grammar
 abbrev pub device_fault_line : Text → DeviceFault → Text
 device_fault_line name (device.Rule number item) = rule_line name number item
 device_fault_line name (device.Text attribute entry) = string_line name attribute entry

@@ -1,4 +1,5 @@
-// Writes the lines for words that are no command, for a text that was not read or is too long, for a failed write, and for lack of memory.
+// Writes the lines for words that form no command, for a text that was not read or is too long, for
+// a failed write, and for lack of memory.
 ghost use Rattle.bt_base.specs.Puts.{Puts};
 ghost use Rattle.refusal_lines.specs.Refusals.{long_line, memory_line, read_line, usage_line, write_line};
 
@@ -6,7 +7,7 @@ use crate::pieces::put_all;
 use bt_base::{PutFault, Sink};
 use itoa::Buffer;
 
-/// Writes the line for words that are no command.
+/// Writes the line for words that form no command.
 pub fn put_usage<N: Sink>(notes: &mut N) -> Result<(), PutFault>
     ensures { Puts (N.shown notes.old) (N.shown notes.new) usage_line result }
 {
@@ -15,14 +16,14 @@ pub fn put_usage<N: Sink>(notes: &mut N) -> Result<(), PutFault>
     )
 }
 
-/// Writes the line for a text that was not read.
+/// Writes the line for a text that could not be read.
 pub fn put_not_read<N: Sink>(name: &str, notes: &mut N) -> Result<(), PutFault>
     ensures { Puts (N.shown notes.old) (N.shown notes.new) (read_line name.now) result }
 {
     put_all(b"cannot read ", &[name.as_bytes(), b"\n"], notes)
 }
 
-/// Writes the line for a text with more bytes than the limit.
+/// Writes the line for a text with more than `limit` bytes.
 pub fn put_too_long<N: Sink>(name: &str, limit: u32, notes: &mut N) -> Result<(), PutFault>
     ensures { Puts (N.shown notes.old) (N.shown notes.new) (long_line name.now limit) result }
 {

@@ -1,9 +1,9 @@
-// The names of texts in the lines of refusal.
+// The names of a command's texts, for the lines on standard error.
 ghost use Rattle.std.specs.Prelude.{◌≡◌, ◌∷◌, [], map};
 ghost use Rattle.refusal_lines.specs.Refusals.{text_name};
 ghost use Rattle.refusal_lines.specs.NamesView.{text_names_view};
 
-/// The names of a command's texts, for the lines of refusal.
+/// The names of a command's texts, for the lines on standard error.
 #[derive(Clone, Copy)]
 pub struct Names<'n, 'a> {
     pub log: &'a str,
@@ -19,7 +19,7 @@ pub enum TextNames<'n, 'a> {
     Several(&'n [&'a str]),
 }
 
-// Returns the name of BSDL text `text`, counted from 0.
+// Returns the name of BSDL text `text`, counted from 0, or an empty name if there is no such text.
 pub fn text_name<'n, 'a>(names: TextNames<'n, 'a>, text: u32) -> &'a str
     ensures { result.now ≡ text_name (text_names_view names.entry) text }
 {

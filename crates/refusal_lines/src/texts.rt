@@ -82,7 +82,7 @@ fn put_board_fault<N: Sink>(names: Names, fault: &BoardFault, notes: &mut N) -> 
     }
 }
 
-// Writes the line for the first fault of a BSDL text's tokens.
+// Writes the line for the point of a BSDL text at which the lexer stops.
 fn put_lex_fault<N: Sink>(name: &str, fault: &LexFault, notes: &mut N) -> Result<(), PutFault>
     ensures { Puts (N.shown notes.old) (N.shown notes.new) (lex_fault_line name.now fault.now)
         result }
@@ -95,7 +95,7 @@ fn put_lex_fault<N: Sink>(name: &str, fault: &LexFault, notes: &mut N) -> Result
     }
 }
 
-// Writes the line for the first token that is not allowed in a BSDL text.
+// Writes the line for the first point at which a BSDL text leaves the grammar.
 fn put_parse_fault<N: Sink>(name: &str, fault: &ParseFault, notes: &mut N) -> Result<(), PutFault>
     ensures { Puts (N.shown notes.old) (N.shown notes.new) (parse_fault_line name.now fault.now)
         result }
@@ -153,7 +153,8 @@ fn put_string_fault<N: Sink>(
     )
 }
 
-// Writes the line for the first rule or string of a device that fails.
+// Writes the line for the first rule that a device breaks, or the first of its strings that leaves
+// its grammar.
 fn put_device_fault<N: Sink>(name: &str, fault: &DeviceFault, notes: &mut N) -> Result<(), PutFault>
     ensures { Puts (N.shown notes.old) (N.shown notes.new) (device_fault_line name.now fault.now)
         result }

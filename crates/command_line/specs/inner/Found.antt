@@ -1,4 +1,5 @@
--- The program's command, as it follows from the values that `clap` found for the arguments.
+-- The program's command, from the values that `clap` found for the arguments. The rows have these
+-- values, one row for each argument.
 use Rattle.std.specs.Prelude.{ℕ, List, [], codes, Option, None, option_and_then, option_map, unwrap_or, if◌then◌else◌}
 use Rattle.std.specs.Str.{bytes_eq}
 use Rattle.clap.specs.Simple.{subcommand_rows_of}
@@ -8,22 +9,22 @@ use Rattle.command_line.specs.declared.command.Command.TheVariants.{Chain, Ident
 use Rattle.command_line.specs.Limits.{most_made, most_workers}
 use Rattle.command_line.specs.Words.{ChainNames, BoardNames, Command, number_of, with_names}
 
--- the names of the BSDL files in the matches
+-- the names of the BSDL files in the rows
 abbrev pub bsdl_in : List Row → List Text
 bsdl_in rows = unwrap_or (all_of (codes "BSDL") rows) []
 
--- the names of the BSDL files in the matches, or `None` if there are more than `most_names`
+-- the names of the BSDL files in the rows, or `None` if there are more than `most_names`
 abbrev pub few_in : List Row → Option (List Text)
 few_in rows = with_names (bsdl_in rows) (bsdl_in rows)
 
--- the file names of a chain in the matches
+-- the file names of a chain in the rows
 abbrev pub chain_in : List Row → Option ChainNames
 chain_in rows =
     option_and_then
     (λ chain. option_map (λ bsdl. record { chain = chain; bsdl = bsdl }) (few_in rows))
     (first_of (codes "CHAIN") rows)
 
--- the file names of a board in the matches
+-- the file names of a board in the rows
 abbrev pub board_in : List Row → Option BoardNames
 board_in rows =
     option_and_then
@@ -31,7 +32,7 @@ board_in rows =
     (λ nets. option_map (λ bsdl. record { chain = chain; nets = nets; bsdl = bsdl })
     (few_in rows)) (first_of (codes "NETS") rows)) (first_of (codes "CHAIN") rows)
 
--- the command `device` that the matches of its subcommand give
+-- the command `device` with the file name in the rows
 abbrev pub device_in : List Row → Option Command
 device_in rows = option_map Device (first_of (codes "BSDL") rows)
 
@@ -51,14 +52,15 @@ worked_in command rows =
 abbrev pub groups_in : List Row → Option Command
 groups_in rows = option_and_then (λ log. option_map (Groups log) (board_in rows)) (first_of (codes "LOG") rows)
 
--- the command of the subcommand with this name, if the subcommand works on response logs
+-- the command of the subcommand with this name, if the name is `diagnose`, `groups` or `batch`;
+-- these commands read response logs
 unfoldable pub log_found : Text → List Row → Option Command
 log_found name rows =
     if bytes_eq (codes "diagnose") name then worked_in Diagnose rows else
     if bytes_eq (codes "groups") name then groups_in rows else
     if bytes_eq (codes "batch") name then worked_in Batch rows else None
 
--- the command of the subcommand with this name, if the name is not `chain`, `ident` or `device`
+-- the command of the subcommand with this name, for all names except `chain`, `ident` and `device`
 unfoldable pub board_found : Text → List Row → Option Command
 board_found name rows =
     if bytes_eq (codes "cover") name then option_map Cover (board_in rows) else
@@ -73,7 +75,7 @@ called_found name rows =
     if bytes_eq (codes "ident") name then option_map Ident (chain_in rows) else
     if bytes_eq (codes "device") name then device_in rows else board_found name rows
 
--- the command in the matches
+-- the command of the subcommand that `clap` found, given by its name and its rows
 abbrev pub command_in : Option (Text × List Row) → Option Command
 command_in = option_and_then (λ found. called_found found.0 found.1)
 
