@@ -1,5 +1,4 @@
--- The board that the marked words of the files give keeps the rules of a board if no rule finds a
--- fault.
+-- If no rule finds a fault, the board made from the marked words keeps the rules of a board.
 use Rattle.std.proofs.Common.{◌≡◌, ℕ, List, [], map, None, sym, subst, ◌∙◌, ap}
 use Rattle.std.specs.Prelude.{option_map}
 use Rattle.first_places.specs.Places.{first_repeated}

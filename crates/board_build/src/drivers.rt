@@ -100,7 +100,7 @@ impl<'a> PartDrivers<'a> {
     }
 }
 
-/// Returns the parts, each with a flag for each port bit.
+/// Returns the parts in order, each with the flags of its port bits.
 pub fn drivers_of<'a>(alloc: Global, parts: &'a [Part]) -> Result<Vec<PartDrivers<'a>>, AllocError>
     ensures { IfOk result (λ drivers. drivers.items ≡ parts.now) }
 {

@@ -23,7 +23,7 @@ pub enum ChainStatement {
         entity: Name,
         package: Option<Name>,
     },
-    /// A part of which only the length of the instruction register is known, from 2 to 255 bits.
+    /// A part without a BSDL description. Its instruction register has `length` bits, from 2 to 255.
     Bypass {
         part: Name,
         length: u32,

@@ -42,12 +42,11 @@ pins = refl
 bits : map (bit_of_pin row) (codes "T1" ∷ codes "A2" ∷ codes "7" ∷ codes "" ∷ codes "8" ∷ []) ≡ Some 0 ∷ Some 1 ∷ Some 3 ∷ None ∷ None ∷ []
 bits = refl
 
--- whole names are compared, and letters of different case differ, since the readers of files put
--- pins in upper case
+-- only the whole name matches, and case matters; the readers of files put pin names in upper case
 whole : map (bit_of_pin row) (codes "a2" ∷ codes "A" ∷ codes "A22" ∷ []) ≡ None ∷ None ∷ None ∷ []
 whole = refl
 
--- if two port bits have the same pin, the first counts
+-- if two port bits have the same pin, the look-up finds the first
 first : bit_of_pin (None ∷ Some (codes "A2") ∷ row) (codes "A2") ≡ Some 1
 first = refl
 

@@ -47,7 +47,7 @@ fn is_bypass(statement: &ChainStatement) -> bool
     matches!(statement, ChainStatement::Bypass { .. })
 }
 
-// Returns the number of the first BYPASS line.
+// Returns the line number of the first BYPASS line, or None if there is none.
 fn first_bypass(lines: &[ChainLine]) -> Option<u32>
     ensures { result ≡ first_bypass lines.now }
 {

@@ -15,7 +15,7 @@ Digits word = list_all is_ascii_digit word ≡ true
 numerals : IsNumeralModel Digits (digits_value 10)
 numerals = numerals_by_value Digits (search rules)
 
--- A word of this length and value is a number of at most `most`. `digits` says whether the word has only digits.
+-- A word of `len` bytes with this value denotes a number from 1 to `most`. `digits` says whether the word has only digits.
 abbrev is_number : Bool → ℕ → ℕ → ℕ → Bool
 is_number digits most len value = digits && is_within 1 20 len && is_within 1 most value
 
@@ -25,7 +25,7 @@ unread_by true most len value true test fits unread = grind (arith, common_steps
 unread_by false most len value true test fits unread = absurd cc
 unread_by digits most len value false test fits unread = refl
 
--- if `parse` returns an error for a word of decimal digits, the word denotes no number
+-- if `parse` returns an error for a word of decimal digits, the word denotes no number from 1 to `most`
 pub unread_number : {E : Type 0} (most : ℕ) (word : Text) (error : E)
     → ParsesUnsigned 32 10 word (Err error) → Digits word → most < 2 ^ 32
     → None ≡ number_of most word

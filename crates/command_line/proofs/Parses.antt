@@ -439,7 +439,7 @@ exact : (words : List Text) → AllPlain words → answer words ≡ parsed words
 exact [] all = none_word
 exact (w ∷ rest) all = first_word w rest all.0 all.1
 
--- if `clap` finds no fault in the words, the command in the matches is the command that the words form
+-- if `clap` finds no fault in the words, the command in `found` is the command that the words form
 pub found_by : (a : App) (words : List Text) (found : Option (Text × List Row)) → a ≡ btest_app
     → list_all is_plain words ≡ true → (is_simple_and_free a ≡ true → fault_of a words ≡ [])
     → (is_simple a ≡ true → found ≡ subcommand_of a words) → command_in found ≡ parsed words

@@ -187,7 +187,7 @@ fn ident_command<'a>(
     }
 }
 
-// Returns the command `device`.
+// Returns the command `device`, or `None` if there is no file name.
 fn device_command<'a>(found: &ArgMatches<'a>) -> Option<NamedCommand<'a>>
     ensures { result ≡ device_in (rows_of (found_of found.now)) }
 {

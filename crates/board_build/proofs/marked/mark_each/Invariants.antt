@@ -7,7 +7,7 @@ use Rattle.board_lines.specs.ChainParts.{pin_places, place_of_pin}
 use Rattle.board_build.specs.inner.Marked.{mark_by}
 use Rattle.board_build.proofs.marked.mark_each.Given as goal
 
--- the first `i` words are marked
+-- the list has the first `i` words, each with the facts about its pin
 abbrev pub invariant-loop-i : goal.invariant-loop-i
 invariant-loop-i l =
     l.marked.items

@@ -1,4 +1,4 @@
--- Each word differs from the earlier words, so all words differ.
+-- No word names the pin of an earlier word, so all words name different pins.
 use Rattle.std.proofs.Common.{◌≡◌, ℕ, ◌+◌, ◌<◌, Bool, true, false, cond, List, length, take, drop, get_or, refl, sym, ◌∙◌, arith}
 use Rattle.std.specs.List.{list_any}
 use Rattle.std.proofs.lemmas.List.{get_or_default}
