@@ -154,7 +154,7 @@ pub fn pulls_by_net<'a>(
 pub fn pull_of_net(pulls: &IndexMap<&[u8], bool>, net: &[u8]) -> Option<bool>
     ensures { result ≡ get_by (λ n. same_word net.now n.now) pulls.now }
 {
-    // Looking up a name hashes it first, which an empty map makes unnecessary.
+    // Looking up a name hashes it, which is wasted work if the map is empty.
     if pulls.is_empty() {
         return None;
     }

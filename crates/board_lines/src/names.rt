@@ -96,7 +96,7 @@ pub fn first_places_of<'a>(
 pub fn place_of(places: &IndexMap<&[u8], u32>, name: &[u8]) -> Option<u32>
     ensures { result ≡ get_by (λ n. same_word name.now n.now) places.now }
 {
-    // Looking up a name hashes it first, which an empty map makes unnecessary.
+    // Looking up a name hashes it, which is wasted work if the map is empty.
     if places.is_empty() {
         return None;
     }
