@@ -139,8 +139,6 @@ module _ (board : RawBoard) where
         same (λ h. record { shape = h.0; bits = h.1 }) (λ e. (e.shape, e.bits))
         (both shape_decided (are_expected (filter is_compared (board_scans board scans)) log, (λ e. e, λ e. e)))
 
-    -- if the faults explain the log `other`, and `log` has the right shape and agrees with `other` on the compared bits, the faults explain
-    -- `log`
     module _ (rules : IsBoard board) (faults : FaultSet) (turn : AreInTurn board scans)
         (other : List (List Bool)) (explained : ExplainedBy board faults scans other) where
       explained_with : HasShape board scans log × AgreeOn board scans log other → ExplainedBy board faults scans log
@@ -180,22 +178,18 @@ module _ (board : RawBoard) (log : List (List Bool)) (rules : IsBoard board) whe
   listed : (single : Single) → Has (singles board) single → IsSingle board single
   listed single has = single_is board rules single (has_contains (singles board) single has)
 
-  -- each log has a diagnosis
   pub some_diagnosis : (pass : Bool) × (faults : List Single) × IsDiagnosis board log pass faults
   some_diagnosis =
       let passes = expected_decided board (svf_row_scans board) log in
       let picked = some_picked Explaining (singles board) (λ single has. single_decided single (listed single has)) in
       (passes.0, picked.0, record { passes = passes.1; list = picked.1 })
 
-  -- if a test decides for each single fault whether it explains the log, filtering the board's single faults by the test gives the faults
-  -- that explain the log
   pub explaining_picked : (test : Single → Bool)
       → ((single : Single) → IsSingle board single
       → Decides (test single) (Explains board single log))
       → Picks Explaining (singles board) (filter test (singles board))
   explaining_picked test decides = filter_picks Explaining test (singles board) (λ single has. decides single (listed single has))
 
--- a log has at most one diagnosis
 pub one_diagnosis : (board : RawBoard) (log : List (List Bool)) (pass other_pass : Bool)
     (faults others : List Single) → IsDiagnosis board log pass faults
     → IsDiagnosis board log other_pass others →

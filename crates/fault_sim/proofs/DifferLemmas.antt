@@ -46,8 +46,7 @@ module _ (board : RawBoard) (plan : PlanTables) (log : List (List Bool)) where
   pub differ_none : DifferBelow 0 []
   differ_none = record { rising = tt; each = λ n has. absurd has; others = λ n less. absurd (omega (arith, less)) }
 
-  -- If `nets` are the differing nets below `count`, and net `count` is appended to them if it differs, the result is the list of the
-  -- differing nets below `count + 1`. `shown` is false if net `count` differs.
+  -- One step of a walk over the nets: net `count` is appended if it differs, that is, if `shown` is false.
   pub differ_more : (count : ℕ) (nets : List ℕ) (shown : Bool) → Decides shown (Expected count)
       → DifferBelow count nets → DifferBelow (count + 1) (nets ++ cond (not shown) (count ∷ []) [])
   differ_more count nets true decides below = subst (λ (l : List ℕ). DifferBelow (count + 1) l) (sym (append-nil nets)) (record {
@@ -92,7 +91,6 @@ module _ (board : RawBoard) (plan : PlanTables) (log : List (List Bool)) where
           by_earlier (inl has) = inl (has_left nets (count ∷ []) n has)
           by_earlier (inr shows) = inr shows
 
-  -- if `count` is the number of nets, the differing nets below `count` are all differing nets of the board
   pub differ_all : (count : ℕ) (nets : List ℕ) → count ≡ length board.nets → DifferBelow count nets → AreDiffering board plan log nets
   differ_all count nets all below = record {
     rising = order_pairs (λ (a b : ℕ). a < b) nets below.rising;
@@ -114,13 +112,12 @@ module _ (board : RawBoard) (plan : PlanTables) (log : List (List Bool)) where
           by_hidden (inl has) = has_contains nets n has
           by_hidden (inr shows) = absurd (hidden shows)
 
--- if a net is in an empty list or P holds, then P holds
 not_among : {P : Type 0} (n : ℕ) (nets : List ℕ) → length nets ≡ 0 → Contains nets n ⊎ P → P
 not_among n [] e (inl has) = absurd (contains_has [] n has)
 not_among n [] e (inr p) = p
 not_among n (m ∷ nets) e s = absurd (omega (arith, e))
 
--- if P is equivalent to the statement that all nets show the expected bits, P holds exactly if the list of differing nets is empty
+-- P is any statement that is equivalent to `ShowsAll`. It holds exactly if no net differs.
 pub none_decides : (board : RawBoard) (plan : PlanTables) (log : List (List Bool)) (nets : List ℕ)
     → AreDiffering board plan log nets → (P : Type 0) → (P → ShowsAll board plan None log)
     → (ShowsAll board plan None log → P) → (r : Bool) → r ≡ (length nets == 0) → Decides r P
@@ -132,7 +129,7 @@ none_decides board plan log (n ∷ nets) differ P to back r is = (
       absurd (d.1 (λ x less. to p x less n d.0)),
 )
 
--- the place of a net among the nets that satisfy a test is the number of earlier nets that satisfy it
+-- the index of net n in the filtered list is the number of earlier nets that satisfy g
 place_in_filter : (g : Net → Bool) (a : ℕ) (nets : List Net) (n : ℕ) (net : Net) → slice_get nets n ≡ Some net → g net ≡ true →
     slice_get
     (map (λ (m : Numbered). m.0) (filter (λ (m : Numbered). g m.1) (enumerate_from a nets)))
@@ -172,7 +169,8 @@ place_in_filter g a (v ∷ nets) (suc n) net e on =
         ap (λ (i : ℕ). slice_get (map (λ (m : Numbered). m.0) rest) i) none
 
 module _ (board : RawBoard) (rules : IsBoard board) (plan : PlanTables) (p : IsPlanOf board plan) (log : List (List Bool)) where
-  -- a net that no pass observes shows the expected bits, whatever the log is
+  -- The statement requires nothing of the log: if a pass enables a driver on such a net, all compared cells of the net read the driver's
+  -- pin, and these are not checked.
   unobserved_shows : (n : ℕ) (net : Net) → slice_get board.nets n ≡ Some net
       → is_observed board plan.passes net ≡ false → ShowsOn board plan None log n
   unobserved_shows n net is_net off x less =

@@ -49,7 +49,7 @@ use Rattle.fault_sim.proofs.OrderLemmas.{place_single}
 use Rattle.fault_sim.proofs.DifferLemmas.{differing_observed, covered_there}
 use Rattle.fault_sim.proofs.SuspectLemmas.{PairAt, pair_at, net_order, net_below, has_stuck, has_open, has_earlier, has_later, pair_order, pair_below, has_pair}
 
--- If one net differs, it is a covered net. If two nets differ, they are covered nets, in the order of their places among the covered nets.
+-- If the list has one net, this net is covered. If it has two nets, both are covered, and they are in the order of the covered nets.
 abbrev pub CanSuspect : PlanTables → FaultLists → List ℕ → Type 0
 CanSuspect plan lists [] = Unit {0}
 CanSuspect plan lists (n ∷ []) = covered_place plan n < length lists.nets
@@ -67,7 +67,6 @@ pub data PlaceOf (lists : FaultLists) (i : ℕ) (single : Single) : Type 0 where
       → i ≡ first_short lists + (4 * pair_number lists a b + r) → Short x y kind ≡ single →
       PlaceOf lists i single
 
--- if faults are placed in order, the fault at place i is fault i of the list
 placed_at : (faults : List Single) (i : ℕ) (single : Single)
     → slice_get (as_places faults) i ≡ Some (Some single) → slice_get faults i ≡ Some single
 placed_at [] i single e = cc e
@@ -182,7 +181,6 @@ module _ (plan : PlanTables) (lists : FaultLists) (starts : ArePairStarts (lengt
         by_first (inl less) = by_stuck less
         by_first (inr above) = by_second above (cases_lt i (2 * length lists.nets + 2 * length lists.pins))
 
--- a number has only one place in a list of ascending numbers
 stands_once : (xs : List ℕ) → InOrder (λ (x y : ℕ). x < y) xs → (a b x y : ℕ)
     → slice_get xs a ≡ Some x → slice_get xs b ≡ Some y → x ≡ y → a ≡ b
 stands_once [] order a b x y ea eb same = cc ea
@@ -193,7 +191,6 @@ stands_once (z ∷ xs) order (suc a) zero x y ea eb same =
     let first : z ≡ y = cc eb in absurd (omega (arith, first, same, order.0 x (has_at xs a x ea)))
 stands_once (z ∷ xs) order (suc a) (suc b) x y ea eb same = ap suc (stands_once xs order.1 a b x y ea eb same)
 
--- in a list of ascending numbers, the number at a lower place is lower
 places_order : (xs : List ℕ) → InOrder (λ (x y : ℕ). x < y) xs → (a b x y : ℕ)
     → slice_get xs a ≡ Some x → slice_get xs b ≡ Some y → a < b → x < y
 places_order [] order a b x y ea eb less = cc ea
@@ -202,7 +199,6 @@ places_order (z ∷ xs) order zero (suc b) x y ea eb less = let first : z ≡ x 
 places_order (z ∷ xs) order (suc a) zero x y ea eb less = absurd (omega (arith, less))
 places_order (z ∷ xs) order (suc a) (suc b) x y ea eb less = places_order xs order.1 a b x y ea eb (omega (arith, less))
 
--- a fault has no effect on a net that is not one of the fault's own nets
 plain_effect : (board : RawBoard) (plan : PlanTables) (pass : List Ctl) (single : Single) (n : ℕ)
     → n ≢ first_net single → n ≢ second_net single → effect_of board plan pass single n ≡ Plain
 plain_effect board plan pass (StuckNet net value) n a b = ap (λ (t : Bool). cond t (Constant value) Plain) (ne_eqb n net a)

@@ -48,7 +48,6 @@ masked_same a b mask k none on =
     let same : bit_at a k ≡ bit_at b k = omega (arith, sum, bit_at-lt a k, bit_at-lt b k) in
     ap (λ (n : ℕ). n == 1) same
 
--- if the bitwise or of two numbers is 0, both numbers are 0
 pub or_zeros : (a b : ℕ) → bit_or a b ≡ 0 → (a ≡ 0) × (b ≡ 0)
 or_zeros a b none = (
   same_from_bits a 0 (λ i. omega (arith, union i, bit_at-zero i)),
@@ -86,7 +85,6 @@ module _ (start marks : List ℕ) (wrong : ℕ → ℕ) (k : ℕ) (left : (i : �
   pub unmarked_left : (mark i : ℕ) → k + 1 ≤ i → get_or (set marks k mark) i 0 ≡ get_or start i 0
   unmarked_left mark i le = get_or-set_other marks k i mark 0 (λ same. omega (arith, le, same)) ∙ left i (omega (arith, le))
 
--- if a log has `width` rows for each of `passes` passes, the index of row `j` of pass `x`, `x * width + j`, is less than the number of rows
 pub row_there : (passes width x j rows : ℕ) → rows ≡ passes * width → x < passes → j < width → x * width + j < rows
 row_there passes width x j rows count x_less j_less = omega (arith, mul-add-lt x width j passes x_less j_less, commute width passes, count)
   where
@@ -94,7 +92,6 @@ row_there passes width x j rows count x_less j_less = omega (arith, mul-add-lt x
     commute a b = grind arith
 
 module _ (board : RawBoard) (plan : PlanTables) where
-  -- the expected bits of a row, and the flags of its compared bits, are as long as a data scan
   pub length-expected : (x j : ℕ) → length (expected_in board plan x j) ≡ data_bits board
   length-expected x j = ap length (tdo_laid board (scan_of_pass board plan x (suc j))) ∙ length-laid _ board
 
@@ -187,7 +184,6 @@ module _ (board : RawBoard) (rules : IsBoard board) (plan : PlanTables) (p : IsP
         by_place y has true e = refl
         by_place y has false e = is_same_of_same (bit_in log (x * plan.width + j) y.position) (code_bit (code_in plan n) j) (bit_is y has e)
 
-  -- if net n is on the board and none of the digits of its cells is marked, the net shows the expected bits
   unmarked_within : (n : ℕ) → n < length board.nets → are_marked marks (plan_readers plan n) ≡ false → ShowsOn board plan None log n
   unmarked_within n within unmarked x less =
       let net = item_there board.nets n within in
@@ -220,8 +216,6 @@ module _ (board : RawBoard) (rules : IsBoard board) (plan : PlanTables) (p : IsP
           by_driver x None = tt
           by_driver x (Some d) = λ j less. refl
 
--- if `old` has the right marks for the first x passes, and checking pass x changes the marks from `old` to `new`, then `new` has the right
--- marks for the first x + 1 passes
 pub pass_more : (board : RawBoard) (plan : PlanTables) (log : List (List Bool)) (x : ℕ)
     (old new : List ℕ) → AreMarks board plan log x old
     → MarkRows board plan log x plan.width old new → AreMarks board plan log (x + 1) new

@@ -22,11 +22,9 @@ use Rattle.fault_sim.specs.Fits.{ShowsAll}
 use Rattle.fault_sim.proofs.EffectLemmas.{IsFault}
 use Rattle.fault_sim.proofs.ShowLemmas.{bits_shown, all_shown}
 
--- a test that decides a statement also decides an equivalent statement
 pub decides_as : {P Q : Type 0} (r : Bool) → Decides r P → (P → Q) → (Q → P) → Decides r Q
 decides_as r decides to back = (λ e. to (decides.0 e), λ q. decides.1 (back q))
 
--- the nets of a board's single fault are on the board
 pub nets_there : (board : RawBoard) (single : Single) → IsSingle board single
     → (first_net single < length board.nets) × (second_net single < length board.nets)
 nets_there board (StuckNet net value) (setting, safe, (v, en, o)) =

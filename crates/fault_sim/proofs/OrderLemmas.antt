@@ -47,7 +47,6 @@ places_counted board lists universe =
         by_test true = refl
         by_test false = refl
 
--- the fault at a place is in the list of the faults of all places
 pub fault_listed : (places : List (Option Single)) (i : ℕ) (single : Single)
     → slice_get places i ≡ Some (Some single) → Has (filter_map (λ place. place) places) single
 fault_listed [] i single e = cc e

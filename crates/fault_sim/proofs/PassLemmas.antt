@@ -6,7 +6,6 @@ use Rattle.std.proofs.Math.Nat.{suc-mul}
 use Rattle.fault_sim.specs.Kept.{IsLogOfTest}
 use Rattle.fault_sim.specs.Planned.{PlannedBoard}
 
--- if P holds for pass x and for all passes before pass x, it holds for all passes before pass x + 1
 pub passes_more : (P : ℕ → Type 0) (x : ℕ) → ((k : ℕ) → k < x → P k) → P x → (k : ℕ) → k < x + 1 → P k
 passes_more P x before here k less = by_pass (cases_eq k x)
   where
@@ -17,7 +16,6 @@ passes_more P x before here k less = by_pass (cases_eq k x)
         lower : (k ≡ x → ⊥) → k < x
         lower ne = grind arith
 
--- if a log has the rows of the test, and x is less than the number of passes, the log has all rows of pass x
 pub rows_within : (test : PlannedBoard) (log : List (List Bool)) (x : ℕ) → IsLogOfTest test log
     → x < length test.plan.passes → x * test.plan.width + test.plan.width ≤ length log
 rows_within test log x is less =

@@ -29,7 +29,6 @@ use Rattle.fault_sim.specs.Laws.{PlacesAre}
 use Rattle.fault_sim.specs.Places.{as_places, pair_places, stuck_places, open_places, short_places, number_places, listed_at, listed_places, place_count, where_observed}
 use Rattle.fault_sim.specs.Starts.{pairs_before, ArePairStarts}
 
--- if faults are placed in order, the faults at these places are the given faults
 placed_faults : (faults : List Single) → filter_map (λ place. place) (as_places faults) ≡ faults
 placed_faults [] = refl
 placed_faults (fault ∷ faults) = ap (λ (l : List Single). fault ∷ l) (placed_faults faults)
@@ -42,8 +41,6 @@ flat_places g (x ∷ xs) =
     filter_map-append (λ place. place) (g x) (flat_map g xs)
     ∙ ap (λ (l : List Single). filter_map (λ place. place) (g x) ++ l) (flat_places g xs)
 
--- if `g x` is `f x` for each item x that satisfies test q, and empty for any other item, joining the lists of g for all items gives the
--- same list as joining the lists of f for the items that satisfy q
 flat_filter : {X : Type 0} (q : X → Bool) (f g : X → List Single)
     → ((x : X) → g x ≡ cond (q x) (f x) []) → (xs : List X)
     → flat_map g xs ≡ flat_map f (filter q xs)
@@ -104,7 +101,6 @@ module _ {X : Type 0} (c : X → Bool) (q : X × X → Bool) (parts : (x y : X) 
           ∙ sym (filter-append q (map (λ y. let p : X × X = (x, y) in p) xs) (pairs_within xs)
           ∙ ap (λ (l : List (X × X)). l ++ filter q (pairs_within xs)) (first_uncovered x e xs))
 
--- two nets that are paired are both covered
 pub paired_covered : (board : RawBoard) (a b : Net) → are_paired board a b ≡ true
     → (is_covered board a ≡ true) × (is_covered board b ≡ true)
 paired_covered board a b e =
@@ -187,7 +183,6 @@ pub length-flat : {X Y : Type 0} (f : X → List Y) (w : ℕ) → ((x : X) → l
 length-flat f w each [] = omega arith
 length-flat f w each (x ∷ xs) = omega (arith, length-append (f x) (flat_map f xs), each x, length-flat f w each xs, suc-mul (length xs) w)
 
--- a number at which a list has no item is not below the length of the list
 pub past_end : {X : Type 0} (xs : List X) (m : ℕ) → None ≡ slice_get xs m → length xs ≤ m
 past_end xs m none = by_side (cases_lt m (length xs))
   where
@@ -207,7 +202,7 @@ flat_past f w each xs m i none low =
       low,
     ))
 
--- the items at places a and b of a list are its pair k, if k is the number of this pair
+-- the pair of items a and b has the index `pairs_before (length xs) a + b - (a + 1)`
 pub pair_there : {X : Type 0} (xs : List X) (a b k : ℕ) (x y : X) → a < b → slice_get xs a ≡ Some x
     → slice_get xs b ≡ Some y → k + suc a ≡ pairs_before (length xs) a + b →
     slice_get (pairs_within xs) k ≡ Some (x, y)
@@ -241,7 +236,7 @@ length-pairs {X} (x ∷ xs) =
     length-append (map (λ v. let p : X × X = (x, v) in p) xs) (pairs_within xs)
     ∙ omega (arith, length-map xs (λ v. let p : X × X = (x, v) in p), length-pairs xs)
 
--- net a has a pair with each of the `nets - (a + 1)` later nets, so this many pairs come between `pairs_before` of a and of a + 1
+-- net a has `nets - (a + 1)` pairs with later nets, so `pairs_before` rises by this number from a to a + 1
 pub before_more : (nets a : ℕ) → a < nets → pairs_before nets (suc a) + suc a ≡ pairs_before nets a + nets
 before_more zero a less = absurd (omega (arith, less))
 before_more (suc nets) zero less = by_nets nets
@@ -262,7 +257,6 @@ square_most n few = mul-le n n most_nets most_nets few few
 pub before_few : (nets a : ℕ) → nets ≤ most_nets → pairs_before nets a ≤ most_nets * most_nets
 before_few nets a few = omega (arith, before_most nets a, square_most nets few)
 
--- no item of `starts` is above the square of `most_nets`
 pub start_few : (nets : ℕ) (starts : List ℕ) → ArePairStarts nets starts → nets ≤ most_nets
     → (a : ℕ) → get_or starts a 0 ≤ most_nets * most_nets
 start_few nets starts are few a = by_side (cases_lt a (length starts))
@@ -271,7 +265,6 @@ start_few nets starts are few a = by_side (cases_lt a (length starts))
     by_side (inl less) = omega (arith, are.each a (omega (arith, less, are.count)), before_few nets a few)
     by_side (inr past) = omega (arith, get_or_past starts a 0 past)
 
--- if `starts` has the right numbers up to net a, and the number for net a + 1 is appended, it has the right numbers up to net a + 1
 pub starts_more : (nets a : ℕ) (starts : List ℕ) (next : ℕ) → a < nets → length starts ≡ a + 1
     → ((k : ℕ) → k ≤ a → get_or starts k 0 ≡ pairs_before nets k) → next ≡ pairs_before nets (a + 1)
     →
@@ -292,7 +285,7 @@ next_start nets a start less e =
     let next : suc a ≡ a + 1 = omega arith in
     omega (arith, before_more nets a less, e, less, ap (λ (i : ℕ). pairs_before nets i) next)
 
--- if pair k is a pair of the net at place `low` with a later net, the later net is at place `low + 1 + (k - start)`
+-- if pair k is a pair of net `low` with a later net, the later net is `low + 1 + (k - start)`
 pub pair_within : (nets : ℕ) (starts s : List ℕ) → s ≡ starts → ArePairStarts nets starts
     → (low k start : ℕ) → low + 1 < length s → get_or s low 0 ≤ k → k < get_or s (low + 1) 0
     → start ≡ get_or s low 0 →
@@ -310,7 +303,6 @@ pair_within nets starts s same are low k start within above below is =
     let moved : pairs_before nets (suc low) ≡ pairs_before nets (low + 1) = ap (λ (i : ℕ). pairs_before nets i) step in
     (omega (arith, above, below, is, first, next, more, moved, within, rows), omega (arith, above, below, is, first, next, more, moved))
 
--- the list of a net's stuck faults has the fault stuck at 0 as item 0, and the fault stuck at 1 as item 1
 pub stuck_fault : (net r : ℕ) → r < 2 → slice_get (stuck_faults net) r ≡ Some (StuckNet net (r == 1))
 stuck_fault net zero less = refl
 stuck_fault net (suc zero) less = refl
@@ -345,7 +337,6 @@ length-four plan pair = by_test (paired_in plan pair.0 pair.1)
 abbrev pub at_once : Option (Option Single) → Option Single
 at_once place = option_and_then (λ fault. fault) place
 
--- if faults are placed in order, the fault at place i is fault i of the list
 placed_there : (faults : List Single) (i : ℕ) → listed_at (as_places faults) i ≡ slice_get faults i
 placed_there faults i = ap at_once (slice_get-map (λ f. Some f) faults i) ∙ by_fault (slice_get faults i)
   where
@@ -371,7 +362,7 @@ open_observed plan (pin ∷ pins) zero = refl
 open_observed plan (pin ∷ pins) (suc zero) = refl
 open_observed plan (pin ∷ pins) (suc (suc i)) = open_observed plan pins i
 
--- place r of the four places of nets a and b has the short of the kind with rank r if some pass observes both nets, and otherwise no fault
+-- place r of a pair has the short of rank r, if some pass observes both nets
 pub short_there : (plan : PlanTables) (a b r : ℕ) (kind : Kind) → r < 4 → kind_rank kind ≡ r
     → at_once (slice_get (number_places plan (a, b)) r)
     ≡ where_observed plan (Some (Short a b kind))
@@ -387,7 +378,6 @@ short_there plan a b r kind less rank = by_test (paired_in plan a b)
         ∙ ap (λ (o : Option Single). option_map (λ f. Some f) o) (short_fault a b r kind rank))
     by_test false = ap at_once (no_fault r less)
 
--- if place i is in the list, the item at this place is the result of `listed_at`
 pub listed_there : (places : List (Option Single)) (i : ℕ) (fault : Option Single)
     → i < length places → fault ≡ listed_at places i → slice_get places i ≡ Some fault
 listed_there places i fault less e = let place = item_there places i less in place.1 ∙ ap Some (sym (e ∙ ap at_once place.1))

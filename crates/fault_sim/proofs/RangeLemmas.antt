@@ -28,7 +28,6 @@ map_filter_more {X} f p n =
     by_test true = refl
     by_test false = refl
 
--- a filter keeps no more numbers than the range has
 pub filter_most : (p : ℕ → Bool) (a n : ℕ) → length (filter p (range_with_len a n)) ≤ n
 filter_most p a zero = omega arith
 filter_most p a (suc n) = by_test (p a) (filter_most p (a + 1) n)

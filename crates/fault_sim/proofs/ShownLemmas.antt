@@ -111,7 +111,6 @@ row_more bits i j bit is = by_place (cases_lt i j) (cases_eq i j)
         ∙ ap (λ (b : Bool). b && bit) (ne_eqb i j other)
         ∙ sym (ap (λ (b : Bool). b && bits i) (le-ltb i (j + 1) (omega (arith, past, other))))
 
--- if a look-up in the log finds a bit, `bit_in` returns this bit
 pub bit_is : (log : List (List Bool)) (row at : ℕ) (bit : Bool) → log_bit log row at ≡ Some bit → bit_in log row at ≡ bit
 bit_is log row at bit is = by_row (slice_get log row) refl is
   where
@@ -122,7 +121,7 @@ bit_is log row at bit is = by_row (slice_get log row) refl is
         ap (λ (l : List Bool). get_or l at false) (get_or_from_slice_get log row bits [] e)
         ∙ get_or_from_slice_get bits at bit false found
 
--- if the net's only cell does not read the driver's pin, the cell shows 1 in a row of the pass exactly if its bit in this row is 1
+-- `within` says whether the pass has the row, `same` says whether the net's only cell reads the driver's pin, and `bit` is the cell's bit
 pub one_shown : (within same bit : Bool) → same ≡ false → (within && bit) ≡ (within && ((not same && is_same bit true) || false))
 one_shown false same bit p = refl
 one_shown true true bit p = absurd (both_ways true p refl)

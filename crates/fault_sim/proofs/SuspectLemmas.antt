@@ -15,7 +15,6 @@ use Rattle.fault_sim.specs.Starts.{pairs_before, ArePairStarts}
 use Rattle.fault_sim.specs.inner.Suspects.{two_from, four_from, first_open, first_short, pair_number, pair_suspects, pin_net, is_net, pin_suspects, net_suspects}
 use Rattle.fault_sim.proofs.PlaceLemmas.{before_more}
 
--- each place in `two_from first` is `first` or the next place
 two_has : (first i : ℕ) → Has (two_from first) i → (first ≤ i) × (i < first + 2)
 two_has first i (inl e) = (omega (arith, e), omega (arith, e))
 two_has first i (inr (inl e)) = (omega (arith, e), omega (arith, e))
@@ -68,7 +67,6 @@ four_order first = (λ y h. after_first y h, (λ y h. after_second y h, (λ y h.
     after_first y (inr (inr (inl e))) = omega (arith, e)
     after_first y (inr (inr (inr none))) = absurd none
 
--- the number of pairs before the pairs of net a does not fall as a rises
 pub before_rises : (nets a b : ℕ) → a ≤ b → b ≤ nets → pairs_before nets a ≤ pairs_before nets b
 before_rises nets a zero le within = let e : a ≡ 0 = omega (arith, le) in omega (arith, ap (λ (i : ℕ). pairs_before nets i) e)
 before_rises nets a (suc b) le within = by_side (cases_eq a (suc b)) (λ below. before_rises nets a b below (omega (arith, within)))

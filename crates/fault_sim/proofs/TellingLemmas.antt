@@ -19,8 +19,6 @@ use Rattle.fault_sim.specs.inner.Telling.{IsTellingNet, IsWordOn}
 use Rattle.fault_sim.specs.inner.Words.{AgreesWith, AreShownBits, AreShown, shows_beside, some_shows, word_bit}
 use Rattle.fault_sim.proofs.MatchLemmas.{nets_there}
 
--- Let the word have the rows of the pass in which some cell has the bit `bit`. If bit j of the word is 1, the pass has a row j, and some
--- cell has this bit in the row.
 row_there : (rows : RowsOfNet) (bit : Bool) (driver : Option ℕ) (word : ℕ)
     → AreShownBits rows bit driver word → (j : ℕ) → j < 32 → word_bit word j ≡ true →
     (j < rows.width) × (some_shows rows.log (rows.first + j) bit rows.readers driver ≡ true)
@@ -28,7 +26,7 @@ row_there rows bit driver word are j less on =
     let parts = and_parts (ltb j rows.width) (some_shows rows.log (rows.first + j) bit rows.readers driver) (sym (are j less) ∙ on) in
     (ltb-true j rows.width parts.0, parts.1)
 
--- if some cell has a bit, and all cells have the bits that an effect gives them, the effect gives that bit
+-- The effect gives the bit `value` at every place. Every cell has the effect's bit, and some cell has the bit `bit`, so the bits are equal.
 bit_shown : (log : List (List Bool)) (row driver j : ℕ) (effect : Effect)
     (expected bit value : Bool) → ((place : ℕ) → value ≡ effect_bit effect j place expected)
     → (readers : List ReaderCell) →

@@ -352,7 +352,6 @@ module _ (board : RawBoard) (rules : IsBoard board) (plan : PlanTables) (p : IsP
     pub flag_is : get_or flags place false ≡ is_tested_pin board net place
     flag_is = Rattle.std.specs.Cmp.both_ways (get_or flags place false) (is_tested_pin board net place) flag_tested tested_flag
 
--- a net has at most `most_pins` pins
 pub pin_count_most : (board : RawBoard) → IsBoard board → (n : ℕ) → pin_count board n ≤ most_pins
 pin_count_most board rules n = by_net (slice_get board.nets n) refl
   where
@@ -362,7 +361,6 @@ pin_count_most board rules n = by_net (slice_get board.nets n) refl
         let most = pins_most board rules n net (slice_get_within board.nets n net e) in
         subst (λ (v : Net). length v.pins ≤ most_pins) (get_or_from_slice_get board.nets n net net e) most
 
--- a list of nets does not have more tested pins than pins
 pins_few : (board : RawBoard) (a : ℕ) (nets : List Net)
     → length (flat_map (tested_pins_in board) (enumerate_from a nets))
     ≤ sum_by (λ net. length net.pins) nets
@@ -381,7 +379,6 @@ pins_few board a (net ∷ nets) =
 pub tested_few : (board : RawBoard) → IsBoard board → length (tested_pins board) ≤ most_pins
 tested_few board rules = omega (arith, pins_few board 0 board.nets, rules.pins_most)
 
--- if two tests agree on all numbers of a range, a filter by either test keeps the same numbers
 filter_range : (p q : ℕ → Bool) (a n : ℕ) → ((k : ℕ) → a ≤ k → k < a + n → p k ≡ q k)
     → filter p (range_with_len a n) ≡ filter q (range_with_len a n)
 filter_range p q a zero same = refl
@@ -393,8 +390,6 @@ filter_range p q a (suc n) same =
     (filter_range p q (a + 1) n
     (λ k low high. same k (omega (arith, low)) (omega (arith, high))))
 
--- if, for the number of each net, f gives the list that g gives for the numbered net, joining the lists of f gives the same list as joining
--- the lists of g
 flat_numbers : {Y : Type 0} (f : ℕ → List Y) (g : Numbered → List Y) (a : ℕ) (nets : List Net)
     → ((k : ℕ) (net : Net) → slice_get nets k ≡ Some net → f (a + k) ≡ g (a + k, net)) →
     flat_map f (range_with_len a (length nets)) ≡ flat_map g (enumerate_from a nets)
@@ -508,7 +503,6 @@ module _ (board : RawBoard) (rules : IsBoard board) (plan : PlanTables) (p : IsP
               (subst (λ (u : Net). ObservesBy board (holds pass) u j)
               (net_same board b two w eb ew) q)))
 
--- if all flags are set, setting one more flag changes nothing
 set_kept : (flags : List Bool) (i : ℕ) → list_all (λ flag. flag) flags ≡ true → set flags i true ≡ flags
 set_kept [] i all = refl
 set_kept (true ∷ flags) zero all = refl

@@ -1,4 +1,5 @@
--- The diagnosis of a log: a flag that is true if the log is the expected one, and the single faults of the board that explain the log.
+-- The diagnosis of a log: whether every compared bit of the log is the expected bit, and the single faults of the board that explain the
+-- log.
 use Rattle.std.specs.Prelude.{◌≡◌, ◌⊎◌, Bool, List, [], ◌∷◌, Decides}
 use Rattle.board_defs.specs.declared.board.RawBoard.{RawBoard}
 use Rattle.board_defs.specs.declared.fault.Single.{Single}
@@ -11,7 +12,8 @@ abbrev pub Picks : {A : Type 0} → (A → Type 0) → List A → List A → Typ
 Picks P [] picked = picked ≡ []
 Picks {A} P (x ∷ xs) picked = ((rest : List A) × P x × (picked ≡ x ∷ rest) × Picks P xs rest) ⊎ ((P x → ⊥) × Picks P xs picked)
 
--- `pass` is true exactly if the log is the expected one; `faults` are the single faults of the board that explain the log, in order
+-- `pass` is true exactly if the log has the shape of the board's test and every compared bit is the expected bit. `faults` are the single
+-- faults of the board that explain the log, in order.
 pub record IsDiagnosis (board : RawBoard) (log : List (List Bool)) (pass : Bool) (faults : List Single) : Type 0 where
   pub passes : Decides pass (IsExpected board (svf_row_scans board) log)
   pub list : Picks (λ single. Explains board single log) (singles board) faults

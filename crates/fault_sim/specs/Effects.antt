@@ -66,12 +66,12 @@ code_in plan n = slice_index_or plan.codes n 0
 abbrev pub driver_in : PlanTables → List Ctl → ℕ → Option NetDriver
 driver_in plan pass n = enabled_on plan.nets (holds pass) n
 
--- the place of a driver's pin in its net
+-- the place of a driver's pin in its net, or `None` if there is no driver
 abbrev pub place_of_driver : Option NetDriver → Option ℕ
 place_of_driver driver = option_map (λ d. d.place) driver
 
--- The bit of a driver's cell in a pass, if the cell does not carry the code of a net. It is the cell's bit in the quiet row, inverted if
--- the pass holds the cell as a control.
+-- The bit that a driver's cell has in all rows of a pass, if the cell does not carry the code of a net. It is the cell's bit in the quiet
+-- row, which is in the latches before each pass. If the pass holds the cell as a control, the bit is inverted.
 abbrev pub steady_in : PlanTables → List Ctl → NetDriver → Bool
 steady_in plan pass d =
     cond (holds pass d.own) (not (slice_index_or plan.quiet.bits d.position false))
@@ -82,8 +82,8 @@ steady_in plan pass d =
 abbrev pub source_in : PlanTables → List Ctl → ℕ → NetDriver → Source
 source_in plan pass n d = cond (is_read_beside (plan_readers plan n) d) (Code (code_in plan n)) (Fixed (steady_in plan pass d))
 
--- The feed that enabled driver d gives net n, which has the pull `pull`. If d's own cell controls d, the driver is off whenever the cell
--- has the bit to which the net is pulled.
+-- The feed of net n, which has the pull `pull`: the bits that enabled driver d gives the net in the rows of the pass. If d's own cell
+-- controls d, the driver is off whenever the cell has the bit to which the net is pulled.
 abbrev pub feed_by : PlanTables → List Ctl → ℕ → Option Bool → NetDriver → Feed
 feed_by plan pass n pull d = record { source = source_in plan pass n d; off = cond (is_own d.own d.ctl) pull None }
 
@@ -91,7 +91,7 @@ feed_by plan pass n pull d = record { source = source_in plan pass n d; off = co
 abbrev pub feed_in : PlanTables → List Ctl → ℕ → Option Bool → Option Feed
 feed_in plan pass n pull = option_map (feed_by plan pass n pull) (driver_in plan pass n)
 
--- the pull of a net
+-- the bit to which a net is pulled, or `None` if the net has no pull
 abbrev pub pull_in : RawBoard → ℕ → Option Bool
 pull_in board n = pulled_to (slice_get board.nets n)
 

@@ -12,21 +12,21 @@ use Rattle.response_log.specs.LogRows.{bit_in}
 use Rattle.fault_sim.specs.declared.effect.Effect.{Effect}
 use Rattle.fault_sim.specs.Effects.{driver_in, place_of_driver, plan_readers, code_in, effect_in, effect_bit, first_net, second_net}
 
--- In row j of a pass, a cell of a net has the bit that the effect gives it. `row` is the number of this row in the log. A cell that reads
--- the enabled driver's pin is not checked.
+-- True if the cell has, in row j of a pass, the bit that the effect gives it, or if the cell reads the enabled driver's pin. `row` is the
+-- number of this row in the log, and `driver` is the place of the driver's pin in its net.
 abbrev pub cell_shows : List (List Bool) → ℕ → ℕ → Effect → ℕ → Bool → ReaderCell → Bool
 cell_shows log row driver effect j expected r =
     (r.place == driver)
     || is_same (bit_in log row r.position) (effect_bit effect j r.place expected)
 
--- In every row of a pass, each of these cells has the bit that the effect gives it. The rows of the pass begin at row `first` of the log.
--- Cells that read the enabled driver's pin are not checked.
+-- In each of `width` rows of the log, from row `first` on, every cell of `readers` has the bit that the effect gives it. The expected bits
+-- are the bits of `code`. Cells that read the enabled driver's pin are not checked.
 abbrev pub ShowRows : List (List Bool) → ℕ → ℕ → ℕ → List ReaderCell → Effect → ℕ → Type 0
 ShowRows log first width code readers effect driver =
     (j : ℕ) → j < width
     → list_all (cell_shows log (first + j) driver effect j (code_bit code j)) readers ≡ true
 
--- Like `ShowRows`, but `driver` is `None` if the pass enables no driver on the net. Then nothing is required.
+-- Like `ShowRows`, but `driver` is `None` if the pass enables no driver on the net. In that case, nothing is required.
 abbrev pub ShowBy : List (List Bool) → ℕ → ℕ → ℕ → List ReaderCell → Effect → Option ℕ → Type 0
 ShowBy log first width code readers effect None = Unit {0}
 ShowBy log first width code readers effect (Some driver) = ShowRows log first width code readers effect driver

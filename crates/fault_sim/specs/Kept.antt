@@ -1,4 +1,5 @@
--- The kept passes of a test, and a log of a test.
+-- Conditions on the kept passes of a test and on a log of the test. A kept pass stores rows and drivers of a pass, so that many logs can
+-- share them.
 use Rattle.std.specs.Prelude.{◌≡◌, ℕ, suc, ◌*◌, ◌<◌, Bool, List, [], length, Option, Some, option_map, slice_get, slice_index_or}
 use Rattle.board_defs.specs.declared.board.Ctl.{Ctl}
 use Rattle.board_defs.specs.declared.board.RawBoard.{RawBoard}
@@ -58,13 +59,13 @@ KeepDrivers plan kept =
     (x : ℕ) (pass : KeptPass) → slice_get kept x ≡ Some pass
     → AreDrivers plan (slice_index_or plan.passes x []) pass.drivers
 
--- the plan has the passes of the board, and the kept passes are those of the plan
+-- the plan has the board's passes, and the rows and drivers of each kept pass belong to the plan's pass with the same number
 pub record HasKeptPasses (test : PlannedBoard) (kept : List KeptPass) : Type 0 where
   pub passes : test.plan.passes ≡ passes_of test.board
   pub rows : KeepRows test.board test.plan kept
   pub drivers : KeepDrivers test.plan kept
 
--- the plan has the passes of the board, and the drivers and the rows are the kept ones of the pass
+-- the plan has the board's passes, `drivers` is this pass of the plan, and `rows` are the first rows of the pass
 pub record IsTestPass (pass : PlannedPass) (drivers : PlanPass) (rows : List ComparedRow) : Type 0 where
   pub passes : pass.test.plan.passes ≡ passes_of pass.test.board
   pub drivers_are : drivers ≡ plan_pass pass.test.plan (controls_of pass)

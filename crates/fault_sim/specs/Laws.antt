@@ -1,4 +1,5 @@
--- The laws of places and suspects.
+-- Laws of the places of a board and of the suspects of a log. A place is the number of a possible single fault. The suspects are the places
+-- whose faults may explain the log.
 use Rattle.std.specs.Prelude.{◌≡◌, ℕ, ◌<◌, Bool, true, List, filter, filter_map, length, All}
 use Rattle.board_defs.specs.declared.board.RawBoard.{RawBoard}
 use Rattle.board_defs.specs.declared.fault.Single.{Single}
@@ -18,8 +19,8 @@ PlacesAre = (board : RawBoard) → filter_map (λ place. place) (places_of board
 abbrev pub PlacesCounted : Type 0
 PlacesCounted = (board : RawBoard) (lists : FaultLists) → IsUniverse board lists → length (places_of board) ≡ place_count lists
 
--- Let `suspects` be the suspects of a log, and let `test` be true only of faults that explain the log. Then filtering the faults at the
--- suspects' places by `test` gives the same list as filtering all single faults of the board.
+-- Let `suspects` be the suspects of a log, and let `test` be true only of faults that explain the log. Filtering the faults at the suspects
+-- by `test` then gives the same list as filtering all single faults of the board by `test`.
 abbrev pub SuspectsSuffice : Type 0
 SuspectsSuffice =
     (board : RawBoard) (plan : PlanTables) (lists : FaultLists) (log : List (List Bool))
@@ -34,6 +35,6 @@ SuspectsArePlaces =
     (suspects : List ℕ) → IsUniverse board lists → AreSuspects board plan lists log suspects →
     All (λ i. i < length (places_of board)) suspects
 
--- If single fault A comes before single fault B, then B does not come before A. So given faults have only one order.
+-- If single fault A comes before single fault B, then B does not come before A. So there is only one way to list given faults in order.
 abbrev pub OneOrder : Type 0
 OneOrder = (one other : Single) → SinglePrecedes one other → SinglePrecedes other one → ⊥

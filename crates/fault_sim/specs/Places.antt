@@ -1,4 +1,5 @@
--- The places of a board. Each place has one single fault, but the four places of two covered nets that are not paired have no fault.
+-- The places of a board, which number the possible single faults: stuck nets, open pins and shorts. Each place has one single fault, but
+-- the four places of two covered nets that are not paired have no fault. Two nets are paired if one safe setting observes both.
 use Rattle.std.specs.Prelude.{◌≡◌, ℕ, ◌+◌, ◌*◌, Bool, true, List, [], ◌∷◌, ◌++◌, map, cond, length, slice_get, Option, Some, None, option_and_then}
 use Rattle.std.specs.List.{flat_map}
 use Rattle.board_defs.specs.declared.board.RawBoard.{RawBoard}
@@ -16,7 +17,7 @@ use Rattle.fault_sim.specs.inner.Tested.{paired_in}
 abbrev pub as_places : List Single → List (Option Single)
 as_places faults = map (λ fault. Some fault) faults
 
--- the four places of two covered nets, which have the shorts of the nets if the nets are paired, and otherwise no fault
+-- the four places of two covered nets: the shorts of the nets if the nets are paired, and otherwise no fault
 abbrev pub pair_places : RawBoard → Numbered × Numbered → List (Option Single)
 pair_places board pair =
     cond (are_paired board pair.0.1 pair.1.1) (as_places (short_faults pair.0.0 pair.1.0))
@@ -62,8 +63,8 @@ listed_places plan lists =
     ++ (as_places (flat_map open_faults lists.pins)
     ++ flat_map (number_places plan) (pairs_within lists.nets))
 
--- True if some pass observes all nets of a fault at a place. For a short, one pass must observe both nets. Any other fault at a place is on
--- one covered net, and some pass observes each covered net.
+-- True if some pass observes all nets of a fault at a place. For a short, one pass must observe both nets. The result is true for any other
+-- fault, since such a fault is on one covered net, and some pass observes each covered net.
 abbrev pub observes_fault : PlanTables → Single → Bool
 observes_fault plan (StuckNet net value) = true
 observes_fault plan (OpenPin pin value) = true

@@ -4,7 +4,7 @@ use Rattle.board_defs.specs.declared.board.Ctl.{Ctl}
 use Rattle.board_defs.specs.Passes.{passes_of}
 use Rattle.plan_tables.specs.declared.tables.PlanTables.{PlanTables}
 use Rattle.scan_planner.specs.Plans.{IsPlanOf}
--- a board with its plan, and a pass of this plan by its number
+-- a board with its plan, and a pass of a board's plan, given by its number
 pub use Rattle.scan_planner.specs.Planned.{PlannedBoard, planned_board, PlannedPass, planned_pass}
 
 -- the plan is built from the board's passes

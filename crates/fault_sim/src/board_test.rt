@@ -1,4 +1,4 @@
-// A board's test with its kept passes, and a log of the test.
+// A board's test, and a log of the test. The test can keep rows and drivers of its passes, so that many logs share them.
 ghost use Rattle.std.specs.Prelude.{◌≡◌, ◌<◌, length};
 ghost use Rattle.board_defs.specs.Passes.{passes_of};
 ghost use Rattle.scan_planner.specs.Plans.{IsPlanOf};
@@ -105,7 +105,7 @@ impl<'a> BoardTest<'a> {
         self.kept
     }
 
-    /// Returns a log of this test. The log must have the test's rows, each as long as a data scan.
+    /// Returns `log` together with this test. The log must have the test's rows, each as long as a data scan.
     pub fn with_log(&self, log: &'a Log) -> LoggedTest<'a>
         requires { IsLogOfTest self.now log.now }
         ensures { result ≡ logged_board self.now log.now }
@@ -129,8 +129,8 @@ impl<'a> BoardTest<'a> {
 }
 
 impl<'a> LoggedTest<'a> {
-    /// Returns a log with its test: the test of `board` that `plan` describes, with no kept passes. The plan must be built from the board's
-    /// passes. The log must have the plan's rows, each as long as a data scan.
+    /// Returns `log` together with its test, which is the test of `board` that `plan` describes, with no kept passes. The plan must be
+    /// built from the board's passes. The log must have the plan's rows, each as long as a data scan.
     pub fn of(board: &'a Board, plan: &'a Plan, log: &'a Log) -> LoggedTest<'a>
         requires plan { IsPlanOf board.now plan.now }
         requires passes { plan.now.passes ≡ passes_of board.now }

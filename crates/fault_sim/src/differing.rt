@@ -15,7 +15,8 @@ use std::alloc::{AllocError, Global};
 use tap_defs::board_law;
 
 impl<'a> LoggedTest<'a> {
-    // Returns whether a net shows the expected bits in every pass. If no digit of the net's cells is marked, the cells are not checked.
+    // Returns whether net `n` shows the expected bits in every pass. `marks` must be the marks of the log's digits. If none of the digits
+    // of the net's cells is marked, no cell is checked.
     fn shows_expected(&self, marks: &[u8], n: u32) -> bool
         requires { AreMarks self.now.test.board self.now.test.plan self.now.log
             (length self.now.test.plan.passes) marks.now }
@@ -29,8 +30,9 @@ impl<'a> LoggedTest<'a> {
         self.shows_on(None, n)
     }
 
-    /// Returns the nets that differ in the log, in net order. A net differs if one of its compared cells has a bit other than the expected
-    /// bit. Reads each row once, and then only the cells of nets that may differ. These are the nets that differ and few others.
+    /// Returns the nets that differ in the log, in net order. A net differs if, in some row, one of its compared cells has a bit other than
+    /// the expected bit. Reads each row once to find the digits with such bits. Then checks only the cells of nets that have such a digit,
+    /// which are the nets that differ and few others.
     pub fn differing(&self, alloc: Global) -> Result<Vec<u32>, AllocError>
         ensures { IfOk result
             (λ nets. AreDiffering self.now.test.board self.now.test.plan self.now.log nets.items) }

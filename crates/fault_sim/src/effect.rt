@@ -21,8 +21,8 @@ pub enum Effect {
         place: u32,
         bit: bool,
     },
-    /// The common bit of two shorted nets in each row. If a net is driven, it is the bit to which the nets are driven. If neither net is
-    /// driven, it is the bit to which they are pulled. If neither net has a pull, it is the expected bit.
+    /// The common bit of two shorted nets in each row. If at least one of the nets is driven, the common bit follows from `kind` and the
+    /// driven bits. If neither net is driven, it is `pull`. If `pull` is `None`, it is the expected bit.
     Shorted {
         kind: Kind,
         first: Option<Feed>,

@@ -1,12 +1,12 @@
-// The lists in which btest looks up the fault at a place of a universe.
+// The lists of covered nets and tested pins of a board. The fault at each place of the board's universe is computed from them.
 ghost use Rattle.std.specs.Prelude.{◌≤◌, length};
 ghost use Rattle.board_defs.specs.Limits.{most_nets, most_pins};
 ghost use Rattle.fault_sim.specs.Starts.{ArePairStarts};
 
 use board_defs::{Items, PinRef};
 
-/// The covered nets and the tested pins of a board. `starts` has, for each covered net, the number of the net's first pair with a later
-/// net. The last item of `starts` is the number of all pairs.
+/// The covered nets and the tested pins of a board. Item `a` of `starts` is the index of covered net `a`'s first pair with a later covered
+/// net, in the list of all pairs. The last item of `starts` is the count of all pairs.
 #[derive(Drop)]
 pub struct FaultLists {
     pub nets: Items<u32>,

@@ -124,7 +124,8 @@ fn enabled_by(plan: &Plan, pass: &Setting, net: u32, driver: NetDriver) -> Enabl
     }
 }
 
-/// Returns the driver that a pass enables on a net, with the bits of the driver's cell in the rows of the pass.
+/// Returns the driver that a pass enables on a net, with the bits of the driver's cell in the rows of the pass. Returns `None` if the pass
+/// enables no driver on the net.
 pub fn enabled_driver(plan: &Plan, pass: &Setting, net: u32) -> Option<EnabledDriver>
     ensures { result ≡ enabled_driver plan.now pass.now net }
 {
@@ -144,7 +145,7 @@ fn feed_of(driver: EnabledDriver, pull: Option<bool>) -> Feed
     }
 }
 
-/// Returns a net in a pass, given the driver that the pass enables on the net and the net's pull.
+/// Returns the feed and the pull of a net in a pass, given the driver that the pass enables on the net and the net's pull.
 pub fn net_fed_by(driver: Option<EnabledDriver>, pull: Option<bool>) -> FedNet
     ensures { result ≡ net_fed_by driver pull }
 {

@@ -14,7 +14,7 @@ use board_defs::{Board, Single};
 use response_log::Log;
 use scan_planner::ReaderCell;
 
-// Returns the bit at position `at` of a row of a log.
+// Returns the bit at position `at` of a row of a log. The log must have this row and this bit.
 #[inline]
 fn bit_in(log: &Log, row: u64, at: u32) -> bool
     requires row { row < length log.now }
@@ -24,8 +24,8 @@ fn bit_in(log: &Log, row: u64, at: u32) -> bool
     log.bit(row, at)
 }
 
-// Returns whether a cell of a net has the bit that `effect` gives it in row `j` of a pass. `row` is the number of this row in the log.
-// Returns true for a cell that reads the enabled driver's pin.
+// Returns whether a cell of a net has the bit that `effect` gives it in row `j` of a pass. Returns true for a cell that reads the enabled
+// driver's pin. `row` is the number of this row in the log. This row must have a bit at the cell's position.
 #[inline]
 fn cell_shows(
     log: &Log,
@@ -70,7 +70,8 @@ fn cells_show(
 }
 
 impl<'a> NetRows<'a> {
-    // Returns whether all cells have the bits of an effect in all rows. Cells that read the pin at the driver's place are not checked.
+    // Returns whether all cells have the bits of an effect in all rows. The expected bits are the bits of `code`. Cells that read the pin
+    // at the driver's place are not checked.
     fn show(&self, code: u32, effect: Effect, driver: u32) -> bool
         ensures { IsTrue result
             ↔ ShowRows self.now.log self.now.first self.now.width code self.now.readers effect

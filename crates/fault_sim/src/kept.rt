@@ -43,7 +43,7 @@ pub fn empty_row(alloc: Global, board: &Board) -> Result<ComparedRow, AllocError
 }
 
 impl<'a> TestPass<'a> {
-    // Returns row `j` of the pass, in newly allocated memory.
+    // Returns row `j` of the pass, in newly allocated memory. `j` must be below the number of rows of a pass.
     fn new_row(&self, alloc: Global, j: u32) -> Result<ComparedRow, AllocError>
         requires { j < self.now.test.plan.width }
         ensures { IfOk result

@@ -12,7 +12,8 @@ use crate::passes::LoggedPass;
 use scan_planner::ReaderCell;
 use std::alloc::{AllocError, Global};
 
-// Marks each digit in which some bit of `log` differs from the bit of `expected` although the bit of `compared` is 1. Clears no mark.
+// Marks each digit in which `log` and `expected` differ at a bit that is 1 in `compared`. Clears no mark. All slices must have the same
+// length.
 fn mark_digits(marks: &mut [u8], log: &[u8], expected: &[u8], compared: &[u8])
     requires log { length log.now ≡ length marks.old }
     requires expected { length expected.now ≡ length marks.old }
@@ -28,8 +29,9 @@ fn mark_digits(marks: &mut [u8], log: &[u8], expected: &[u8], compared: &[u8])
 }
 
 impl<'a> LoggedPass<'a> {
-    // Marks each digit in which a compared bit of row `j` of the pass is not the expected bit. `row` has the expected bits of this row and
-    // the positions at which they are compared.
+    // Marks each digit in which a compared bit of row `j` of the pass is not the expected bit. `row` must have the expected bits of this
+    // row and the positions at which they are compared. `j` must be below the number of rows of a pass. `marks` must have one item for each
+    // digit of a row.
     fn mark_by(&self, marks: &mut [u8], j: u32, row: &ComparedRow)
         requires row { j < self.now.logged.test.plan.width }
         requires count { length marks.old ≡ digit_count (data_bits self.now.logged.test.board) }
@@ -48,6 +50,7 @@ impl<'a> LoggedPass<'a> {
     }
 
     // Like `mark_by`, but takes the expected bits of row `j` from the kept rows. If row `j` is not kept, fills `spare` with these bits.
+    // `spare` must have room for a data scan.
     fn mark_row(&self, marks: &mut [u8], spare: &mut ComparedRow, j: u32)
         requires row { j < self.now.logged.test.plan.width }
         requires count { length marks.old ≡ digit_count (data_bits self.now.logged.test.board) }
@@ -66,7 +69,7 @@ impl<'a> LoggedPass<'a> {
     }
 
     // Marks each digit in which a compared bit of some row of the pass is not the expected bit. `spare` is a buffer for rows that are not
-    // kept.
+    // kept, and must have room for a data scan. `marks` must have one item for each digit of a row.
     fn mark(&self, marks: &mut [u8], spare: &mut ComparedRow)
         requires count { length marks.old ≡ digit_count (data_bits self.now.logged.test.board) }
         requires room { HasScanRoom self.now.logged.test.board spare.old }

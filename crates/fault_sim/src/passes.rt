@@ -37,7 +37,7 @@ impl<'a> Model for PassDrivers<'a> {
 }
 
 impl<'a> PassDrivers<'a> {
-    /// Returns pass `x` of a plan. `kept` holds the kept passes of the plan.
+    /// Returns pass `x` of a plan. `x` must be below the number of passes, and `kept` must be kept passes of this plan.
     pub fn of(plan: &'a Plan, kept: &'a [KeptPass], x: u32) -> PassDrivers<'a>
         requires kept { KeepDrivers plan.now kept.now }
         requires pass { x < length plan.now.passes }
@@ -163,7 +163,8 @@ impl<'a> TestPass<'a> {
         self.rows
     }
 
-    /// Fills `row` with the bits that the test expects in row `j` of the pass, and with the mask of the compared bits.
+    /// Fills `row` with the bits that the test expects in row `j` of the pass, and with the mask of the compared bits. `j` must be below
+    /// the number of rows of a pass, and `row` must have room for a data scan.
     pub fn fill_row(&self, j: u32, row: &mut ComparedRow)
         requires row { j < self.now.test.plan.width }
         requires room { HasScanRoom self.now.test.board row.old }
@@ -220,7 +221,7 @@ impl<'a> LoggedPass<'a> {
         self.pass.plan().code(net)
     }
 
-    /// Returns a net in this pass, as words.
+    /// Returns the bits to which this pass drives a net, as words with one bit for each row, and the net's pull.
     pub fn fed_words(&self, net: u32) -> FedWords
         ensures { AreWordsIn self.now net result }
     {

@@ -29,7 +29,7 @@ impl ShownWords {
     }
 }
 
-// Returns the word in which bits `0..width` are set, one for each row of a pass.
+// Returns the word in which bits `0..width` are set, one for each row of a pass. `width` must be below 32.
 fn first_rows(width: u32) -> u32
     requires { width < 32 }
     ensures { (j : ℕ) → word_bit result j ≡ nat_lt j width }
@@ -37,7 +37,7 @@ fn first_rows(width: u32) -> u32
     (1 << width) - 1
 }
 
-// Returns `word`, with bit `j` set if `bit` is true, and unchanged if `bit` is false.
+// Returns `word`, with bit `j` set if `bit` is true, and unchanged if `bit` is false. `j` must be below 32.
 #[inline]
 fn with_row(word: u32, j: u32, bit: bool) -> u32
     requires { j < 32 }
@@ -60,7 +60,7 @@ fn joined(one: ShownWords, other: ShownWords) -> ShownWords
 }
 
 impl<'a> NetRows<'a> {
-    // Returns the bits of the cell at position `at` in the rows of the pass, as a word.
+    // Returns the bits of the cell at position `at` in the rows of the pass, as a word. Each row of the log must have a bit at `at`.
     fn cell_word(&self, at: u32) -> u32
         requires { All (λ row. at < length row) self.now.log }
         ensures { (j : ℕ) → j < 32
@@ -75,6 +75,7 @@ impl<'a> NetRows<'a> {
     }
 
     // Returns the rows in which one cell shows 1, and the rows in which it shows 0. Both words are 0 if the cell reads the driver's pin.
+    // Each row of the log must have a bit at the cell's position.
     fn cell_words(&self, reader: ReaderCell, driver: u32) -> ShownWords
         requires { All (λ row. reader.position < length row) self.now.log }
         ensures { AreShown (rows_of_net self.now.log self.now.first self.now.width (reader ∷ []))

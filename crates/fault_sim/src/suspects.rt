@@ -54,7 +54,8 @@ fn push_four(places: &mut Vec<u64>, place: u64) -> Result<(), AllocError>
     Ok(())
 }
 
-// Returns the number of the pair of the covered nets at places `a` and `b`. `a` must be below `b`.
+// Returns the index of the pair of covered nets `a` and `b` in the list of all pairs, if `a` is below `b`. The covered nets are numbered by
+// their index in `lists.nets`.
 fn pair_number(lists: &FaultLists, a: u32, b: u32) -> u64
     ensures number { result ≡ pair_number lists.now a b }
     ensures few { result < 2 ^ 34 }
@@ -101,7 +102,7 @@ fn push_pins(places: &mut Vec<u64>, lists: &FaultLists, n: u32) -> Result<(), Al
     Ok(())
 }
 
-// Adds the places of all shorts of the covered net at place `k` with an earlier covered net.
+// Adds the places of all shorts of item `k` of the covered nets with an earlier covered net.
 fn push_earlier(places: &mut Vec<u64>, lists: &FaultLists, k: u32) -> Result<(), AllocError>
     ensures { OnOk result
         (places.new.items
@@ -113,7 +114,7 @@ fn push_earlier(places: &mut Vec<u64>, lists: &FaultLists, k: u32) -> Result<(),
     Ok(())
 }
 
-// Adds the places of all shorts of the covered net at place `k` with a later covered net.
+// Adds the places of all shorts of item `k` of the covered nets with a later covered net.
 fn push_later(places: &mut Vec<u64>, lists: &FaultLists, k: u32) -> Result<(), AllocError>
     ensures { OnOk result
         (places.new.items
@@ -127,7 +128,7 @@ fn push_later(places: &mut Vec<u64>, lists: &FaultLists, k: u32) -> Result<(), A
     Ok(())
 }
 
-// Returns the place of a net among the covered nets. The net must have a code. The codes number the covered nets from 1.
+// Returns the index of a net in the list of covered nets, if the net has a code. The codes number the covered nets from 1.
 fn covered_place(plan: &Plan, n: u32) -> u32
     ensures { result ≡ covered_place plan.now n }
 {

@@ -36,8 +36,8 @@ impl Model for Universe {
     ghost view = { λ a. a.lists };
 }
 
-// Returns, for each net below `nets`, the number of the net's first pair with a later net. The last item of the result is the number of all
-// pairs.
+// Returns the items of `FaultLists::starts` for `nets` covered nets. Item `a` is the index of net `a`'s first pair with a later net, in the
+// list of all pairs. The last item is the count of all pairs.
 fn pair_starts(alloc: Global, nets: u32) -> Result<Vec<u64>, AllocError>
     requires { nets ≤ most_nets }
     ensures { IfOk result (λ starts. ArePairStarts nets starts.items) }
@@ -52,7 +52,7 @@ fn pair_starts(alloc: Global, nets: u32) -> Result<Vec<u64>, AllocError>
     Ok(starts)
 }
 
-// Returns true only if pair `k` is a pair of the net at place `row` with a later net.
+// Returns true only if pair `k` is a pair of net `row` with a later net.
 fn holds_pair(starts: &[u64], row: usize, k: u64) -> bool
     ensures within { result ≡ true → row + 1 < length starts.now }
     ensures low { result ≡ true → slice_index_or starts.now row 0 ≤ k }
@@ -64,7 +64,8 @@ fn holds_pair(starts: &[u64], row: usize, k: u64) -> bool
     k < start_at(starts, row.saturating_add(1))
 }
 
-// Returns the place of the net whose pairs with later nets include pair `k`. The search is binary.
+// Returns the first net of pair `k`, by binary search. `starts` must not be empty. `k` must be at least its first item and below its last
+// item.
 fn halved_row(starts: &[u64], k: u64) -> usize
     requires some { 0 < length starts.now }
     requires first { slice_index_or starts.now 0 0 ≤ k }
@@ -86,8 +87,8 @@ fn halved_row(starts: &[u64], k: u64) -> usize
     low
 }
 
-// Like `halved_row`, but first tries the places `near` and `near + 1`. `near` is the place that the last look-up found. Most callers ask
-// for pairs in ascending order, so one of these two places is usually the right one.
+// Like `halved_row`, but first tries the nets `near` and `near + 1`. `near` is the result of the last look-up. Most callers ask for pairs
+// in ascending order, so one of these two nets is usually the right one.
 fn row_of(starts: &[u64], k: u64, near: usize) -> usize
     requires some { 0 < length starts.now }
     requires first { slice_index_or starts.now 0 0 ≤ k }
@@ -113,8 +114,8 @@ fn pair_count(lists: &FaultLists) -> u64
     start_at(lists.starts.as_slice(), lists.nets.len())
 }
 
-/// Returns item `a` of `starts`: the number of the first pair of the net at place `a` with a later net. The last item is the number of all
-/// pairs. Returns 0 past the last item.
+/// Returns item `a` of `starts`: the index of net `a`'s first pair with a later net, in the list of all pairs. The last item is the count
+/// of all pairs. Returns 0 past the last item.
 pub fn start_at(starts: &[u64], a: usize) -> u64
     ensures { result ≡ slice_index_or starts.now a 0 }
 {
@@ -168,8 +169,8 @@ fn open_at(pins: &[PinRef], i: u64) -> Option<Single>
     }
 }
 
-// Returns pair `k` of the covered nets, with the lower net first. On entry `near` is the place of the first net of the pair that the last
-// look-up found. This look-up sets `near` to the place of the first net of pair `k`.
+// Returns pair `k` of the covered nets, with the lower net first. `near` is the index, in the list of covered nets, of the first net of the
+// pair that the last look-up found. This look-up sets `near` to the index of the first net of pair `k`.
 fn pair_at(lists: &FaultLists, k: u64, near: &mut usize) -> Option<(u32, u32)>
     ensures { result ≡ slice_get (pairs_within lists.now.nets) k }
 {
@@ -295,8 +296,8 @@ impl Universe {
 
     /// Returns the fault at place `i`. For a place of a pair of covered nets, returns a short even if no pass observes both nets. `near`
     /// only speeds up the look-up of a pair. Pass a variable that is 0 at first, and pass it again to later look-ups. Each look-up of a
-    /// pair sets this variable to the place of the pair's first net among the covered nets. If the places are looked up in ascending order,
-    /// nearly every look-up then needs no search. Allocates nothing.
+    /// pair sets this variable to the index of the pair's first net in the list of covered nets. If the places are looked up in ascending
+    /// order, nearly every look-up then needs no search. Allocates nothing.
     pub fn candidate(&self, i: u64, near: &mut usize) -> Option<Single>
         ensures { (plan : PlanTables)
             → listed_at (listed_places plan self.now) i ≡ where_observed plan result }

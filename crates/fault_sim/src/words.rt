@@ -84,7 +84,7 @@ fn feed_words(feed: Option<Feed>) -> FeedWords
     }
 }
 
-/// Returns a net in a pass, as words.
+/// Returns the bits to which a net is driven in the rows of a pass, as words, and the net's pull.
 #[inline]
 pub fn fed_words(fed: FedNet) -> FedWords
     ensures { AreWordsOf fed result }

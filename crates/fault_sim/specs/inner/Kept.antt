@@ -39,7 +39,7 @@ abbrev pub is_code_source : Source → Bool
 is_code_source (Code code) = true
 is_code_source (Fixed bit) = false
 
--- the pass observes the net of this driver, that is, the driver's cell carries the bits of the net's code
+-- true if the driver's cell carries the bits of the net's code, that is, if the pass observes the net
 abbrev pub observes_coded : Option EnabledDriver → Bool
 observes_coded None = false
 observes_coded (Some d) = is_code_source d.source

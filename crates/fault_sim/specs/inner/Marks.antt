@@ -1,4 +1,4 @@
--- Marks of the digits of a log's rows. A digit is marked if, in some row, a compared bit of this digit is not the expected bit.
+-- Marks of the hexadecimal digits of a log's rows. A digit is marked if, in some row, a compared bit of this digit is not the expected bit.
 use Rattle.std.specs.Prelude.{◌≡◌, ℕ, ◌+◌, ◌*◌, ◌/◌, ◌<◌, ◌≤◌, ◌==◌, Bool, true, false, not, List, slice_index_or}
 use Rattle.std.specs.List.{list_any}
 use Rattle.board_defs.specs.declared.board.RawBoard.{RawBoard}
@@ -20,12 +20,12 @@ HasExpected board plan log x j at =
     slice_index_or (compared_in board plan x j) at false ≡ true
     → bit_in log (x * plan.width + j) at ≡ slice_index_or (expected_in board plan x j) at false
 
--- the digit of this position is not marked
+-- the digit that contains this position is not marked
 abbrev pub IsUnmarked : List ℕ → ℕ → Type 0
 IsUnmarked marks at = slice_index_or marks (at / 4) 0 ≡ 0
 
--- While row j of pass x is checked, the marks change from `old` to `new`. If the digit of a position is unmarked in `new`, it is unmarked
--- in `old`, and the log has the expected bit at this position of the row.
+-- Checking row j of pass x changes the marks from `old` to `new`. If the digit of a position is unmarked in `new`, it is also unmarked in
+-- `old`. If the test compares the row at this position, the log then has the expected bit there.
 abbrev pub MarkRow : RawBoard → PlanTables → List (List Bool) → ℕ → ℕ → List ℕ → List ℕ → Type 0
 MarkRow board plan log x j old new =
     (at : ℕ) → at < data_bits board → IsUnmarked new at
@@ -37,7 +37,8 @@ MarkRows board plan log x rows old new =
     (at : ℕ) → at < data_bits board → IsUnmarked new at
     → IsUnmarked old at × ((j : ℕ) → j < rows → HasExpected board plan log x j at)
 
--- if the digit of a position is unmarked, the log has the expected bits at this position in all rows of the first `passes` passes
+-- if the digit of a position is unmarked, the log has the expected bit there in each row of the first `passes` passes that is compared at
+-- this position
 abbrev pub AreMarks : RawBoard → PlanTables → List (List Bool) → ℕ → List ℕ → Type 0
 AreMarks board plan log passes marks =
     (at : ℕ) → at < data_bits board → IsUnmarked marks at → (x : ℕ) → x < passes → (j : ℕ)

@@ -20,8 +20,8 @@ net_rows_in pass net =
     rows_of_net pass.logged.log (pass.number * pass.logged.test.plan.width)
     pass.logged.test.plan.width (plan_readers pass.logged.test.plan net)
 
--- The log has `width` rows from row `first` on, and `width` is less than 32. Every row of the log has a bit at the position of each cell in
--- `readers`.
+-- The log has `width` rows from row `first` on, and `width` is less than 32. The number of the row after them is below 2 ^ 64. Every row of
+-- the log has a bit at the position of each cell in `readers`.
 pub record AreNetRows (rows : RowsOfNet) : Type 0 where
   pub within : rows.first + rows.width ≤ length rows.log
   pub fits : rows.first + rows.width < 2 ^ 64

@@ -22,7 +22,7 @@ first_open lists = 2 * length lists.nets
 abbrev pub first_short : FaultLists → ℕ
 first_short lists = 2 * length lists.nets + 2 * length lists.pins
 
--- the number of the pair of covered nets that are items a and b of `lists.nets`, if a is less than b
+-- the index of the pair of items a and b of `lists.nets` in the list of all pairs of covered nets, if a is less than b
 abbrev pub pair_number : FaultLists → ℕ → ℕ → ℕ
 pair_number lists a b = slice_index_or lists.starts a 0 + (b - suc a)
 
@@ -43,7 +43,7 @@ is_net n (Some net) = net == n
 abbrev pub pin_suspects : FaultLists → ℕ → ℕ → List ℕ
 pin_suspects lists n i = cond (is_net n (pin_net (slice_get lists.pins i))) (two_from (first_open lists + 2 * i)) []
 
--- the places of all faults of net n, which is at place k among the covered nets
+-- the places of all faults of net n, which is item k of `lists.nets`
 abbrev pub net_suspects : FaultLists → ℕ → ℕ → List ℕ
 net_suspects lists n k =
     two_from (2 * k)
@@ -51,7 +51,7 @@ net_suspects lists n k =
     ++ (flat_map (λ a. pair_suspects lists a k) (range_with_len 0 k)
     ++ flat_map (λ b. pair_suspects lists k b) (range_with_len (suc k) (length lists.nets - suc k))))
 
--- the place of a net among the covered nets; the codes number the covered nets from 1
+-- the index of a net in the list of covered nets, if the net has a code; the codes number the covered nets from 1
 abbrev pub covered_place : PlanTables → ℕ → ℕ
 covered_place plan n = code_in plan n - 1
 

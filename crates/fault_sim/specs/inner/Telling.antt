@@ -9,7 +9,8 @@ use Rattle.fault_sim.specs.Planned.{NetInPass, PassOfLog, held_controls}
 use Rattle.fault_sim.specs.inner.NetRows.{net_rows_in}
 use Rattle.fault_sim.specs.inner.Words.{AreShown, AreWordsOf, word_bit}
 
--- `shown` has the rows of the pass in which some compared cell of the net shows 1, and the rows in which some compared cell shows 0
+-- `shown` has the rows of the pass in which some compared cell of the net has the bit 1 in the log, and the rows in which some such cell
+-- has the bit 0. Cells that read the enabled driver's pin are not counted.
 abbrev pub IsShownIn : NetInPass → ShownWords → Type 0
 IsShownIn n shown =
     AreShown (net_rows_in n.pass n.net)
@@ -19,8 +20,8 @@ IsShownIn n shown =
 abbrev pub AreWordsIn : PassOfLog → ℕ → FedWords → Type 0
 AreWordsIn pass net words = AreWordsOf (fed_net pass.logged.test.board pass.logged.test.plan (held_controls pass) net) words
 
--- `code` is the code of the net, `fed` has the bits to which the net is driven in the pass, and `shown` has the rows in which the net's
--- cells show 1 or 0
+-- `code` is the code of the net, and `fed` has the bits to which the net is driven in the pass. `shown` has the rows in which some compared
+-- cell of the net has the bit 1, and the rows in which some such cell has the bit 0.
 pub record IsTellingNet (n : NetInPass) (code : ℕ) (fed : FedWords) (shown : ShownWords) : Type 0 where
   pub code_is : code ≡ code_in n.pass.logged.test.plan n.net
   pub fed_is : AreWordsIn n.pass n.net fed

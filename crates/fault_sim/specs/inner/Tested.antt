@@ -47,7 +47,7 @@ marked_in plan n flags pass = marked_by (driver_in plan pass n) (plan_readers pl
 abbrev pub tested_flags : PlanTables → ℕ → ℕ → List Bool
 tested_flags plan count n = fold (marked_in plan n) (replicate count false) plan.passes
 
--- the list of pin `place` of net n if the pin is tested, and otherwise the empty list
+-- a list with only pin `place` of net n if the pin is tested, and otherwise the empty list
 abbrev pub pin_where : Bool → ℕ → ℕ → List PinRef
 pin_where is_tested n place = cond is_tested (record { net = n; place = place } ∷ []) []
 
