@@ -1,5 +1,5 @@
--- Lemmas which say that every single fault that explains a log is the fault at some suspect's place. So the search among the suspects finds
--- all single faults that explain the log.
+-- Lemmas which say that every single fault that explains a log is at the place of some suspect. So a search among the suspects finds all
+-- single faults that explain the log.
 use Rattle.std.proofs.Common.{◌≡◌, ℕ, zero, suc, Bool, true, false, ◌==◌, ◌&&◌, List, length, Result, Ok, Err, Some, ◌⊎◌, inl, inr, get_or, ◌<◌, refl, sym, ap, ◌∙◌, subst}
 use Rattle.std.specs.Prelude.{filter, filter_map, slice_get, All, IfOk}
 use Rattle.std.specs.List.{list_any}
@@ -100,7 +100,6 @@ module _ (board : RawBoard) (rules : IsBoard board) (plan : PlanTables) (lists :
   abbrev candidates : List Single
   candidates = filter_map (fault_at board) suspects
 
-  -- if a single fault of the board explains the log, it is one of the candidates
   has_candidate : (single : Single) → Has (singles board) single → Explains board single log → Has candidates single
   has_candidate single listed explains =
       let test : Single → Bool = λ other. same_single other single in
@@ -111,7 +110,6 @@ module _ (board : RawBoard) (rules : IsBoard board) (plan : PlanTables) (lists :
       (subst (λ (l : List Single). Has l single) kept
       (has_filter test (singles board) single listed (one_same single)))).0
 
-  -- the candidates that explain the log are all single faults of the board that explain the log
   pub candidates_explain : (faults : List Single)
       → Picks (λ single. Explains board single log) candidates faults
       → AreExplaining board log faults
@@ -143,7 +141,7 @@ module _ (board : RawBoard) (rules : IsBoard board) (plan : PlanTables) (lists :
           (λ single candidate on. only single on)
           (λ single candidate explains. all single candidate explains) those
 
-  -- if a search returns the candidates that explain the log, it returns all single faults of the board that explain the log
+  -- if a search returns the suspects' faults that explain the log, these are all single faults of the board that explain the log
   pub all_found : {V E : Type 0} (view : V → List Single) (result : Result V E)
       → IfOk result
       (λ v. Picks (λ single. Explains board single log)
@@ -156,7 +154,6 @@ module _ (board : RawBoard) (rules : IsBoard board) (plan : PlanTables) (lists :
       (λ (l : List ℕ). Picks (λ single. Explains board single log)
       (filter_map (fault_at board) l) (view v)) (range_whole suspects) found)
 
--- the nets and the pin of a board's single fault are on the board
 pub single_named : (board : RawBoard) (single : Single) → IsSingle board single → IsFaultOnBoard board single
 single_named board (StuckNet net value) is = (nets_there board (StuckNet net value) is).0
 single_named board (OpenPin pin value) is = ((nets_there board (OpenPin pin value) is).0, by_use is)

@@ -1,4 +1,4 @@
--- Lemmas about the faults that a search finds among the candidates `from..to`.
+-- Lemmas about the faults that a search finds among the suspects `from..to`.
 use Rattle.std.proofs.Common.{◌≡◌, ℕ, ◌+◌, ◌<◌, ◌≤◌, Bool, true, false, cond, List, [], ◌∷◌, ◌++◌, length, Option, Some, None, Result, Ok, Err, refl, sym, ap, ◌∙◌, subst, inl, inr}
 use Rattle.std.specs.Prelude.{filter_map, slice_get, option_and_then, Decides, IfOk}
 use Rattle.std.specs.List.{cons_option}
@@ -43,7 +43,6 @@ found_nothing s i =
     (filter_map (fault_at s.logged.now.test.board) l) []) (sym (range_none s.suspects.now i))
     refl
 
--- the range of candidate `i` alone has the fault at the candidate's place, if there is such a fault
 one_candidate : (s : Search) (i place : ℕ) → slice_get s.suspects.now i ≡ Some place
     → faults_between s i (i + 1) ≡ cons_option (fault_at s.logged.now.test.board place) []
 one_candidate s i place at =
@@ -93,7 +92,7 @@ module _ (s : Search) (rules : IsBoard s.logged.now.test.board)
       (listed_are s.logged.now.test.board rules plan p are s.universe.now search.universe))
       ∙ candidate plan
 
-  -- if the place has no fault, the search finds nothing at it
+  -- if the place has no fault, the search finds none there
   pub found_no_fault : (i : ℕ) → slice_get s.suspects.now i ≡ Some place
       → ((plan : PlanTables) → listed_at (listed_places plan s.universe.now) place ≡ None)
       → AreFoundBetween s i (i + 1) []
@@ -135,7 +134,7 @@ module _ (s : Search) (rules : IsBoard s.logged.now.test.board)
               (λ e. (decides.0 e).1, λ explains. decides.1 (on, explains))
           by_test false off = by_answer holds refl off
 
--- the faults found in two neighboring ranges, joined, are the faults found in the range of both
+-- the faults found in two adjacent ranges, joined, are the faults found in both ranges
 found_ranges : (s : Search) (items : ℕ) {E : Type 0} → IsOfRanges {E = E} items (λ from to said. IfOk said (AreFoundBetween s from to))
 found_ranges s items = record {
   nothing = found_nothing s;

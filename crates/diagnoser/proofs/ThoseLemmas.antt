@@ -1,4 +1,4 @@
--- Lemmas about the list of the items for which a property holds, in order.
+-- Lemmas about the list `those` of the items of `xs` for which P holds, in order.
 use Rattle.std.proofs.Common.{◌≡◌, ◌⊎◌, inl, inr, Bool, true, false, cond, List, [], ◌∷◌, ◌++◌, refl, sym, ap, ◌∙◌, subst}
 use Rattle.std.specs.Prelude.{filter}
 use Rattle.board_defs.proofs.Members.{Has}
@@ -12,7 +12,6 @@ module _ {X : Type 0} (P : X → Type 0) where
       inl (rest ++ b, holds, ap (λ (l : List X). l ++ b) is, those_append xs ys rest b first second)
   those_append (x ∷ xs) ys a b (inr (not, first)) second = inr (not, those_append xs ys a b first second)
 
-  -- each item of `those` is an item of `xs` for which the property holds
   pub those_hold : (xs those : List X) (y : X) → Picks P xs those → Has those y → Has xs y × P y
   those_hold [] those y none has = absurd (subst (λ (l : List X). Has l y) none has)
   those_hold (x ∷ xs) those y (inl (rest, holds, is, more)) has =
@@ -23,7 +22,6 @@ module _ {X : Type 0} (P : X → Type 0) where
       by_place below (inr later) = let r = below later in (inr r.0, r.1)
   those_hold (x ∷ xs) those y (inr (not, more)) has = let r = those_hold xs those y more has in (inr r.0, r.1)
 
-  -- each item of `xs` for which the property holds is an item of `those`
   pub hold_those : (xs those : List X) (y : X) → Picks P xs those → Has xs y → P y → Has those y
   hold_those [] those y none has holds = absurd has
   hold_those (x ∷ xs) those y (inl (rest, first, is, more)) has holds =
@@ -39,7 +37,6 @@ module _ {X : Type 0} (P : X → Type 0) where
       by_place below (inl same) = absurd (not (subst P (sym same) holds))
       by_place below (inr later) = below later
 
-  -- there is only one list of the items for which the property holds
   pub those_one : (xs a b : List X) → Picks P xs a → Picks P xs b → a ≡ b
   those_one [] a b first second = first ∙ sym second
   those_one (x ∷ xs) a b (inl (rest, holds, is, more)) (inl (rest', holds', is', more')) =
@@ -62,7 +59,6 @@ module _ {X : Type 0} (P : X → Type 0) where
   those_none (x ∷ xs) those not (inl (rest, holds, is, more)) = absurd (not x (inl refl) holds)
   those_none (x ∷ xs) those not (inr (not_first, more)) = those_none xs those (λ y has. not y (inr has)) more
 
-  -- if a test decides the property for each item of `xs`, filtering `xs` by the test gives the list `those`
   pub those_filter : (test : X → Bool) (xs those : List X)
       → ((x : X) → Has xs x → test x ≡ true → P x) → ((x : X) → Has xs x → P x → test x ≡ true)
       → Picks P xs those → filter test xs ≡ those

@@ -18,15 +18,16 @@ use Rattle.diagnoser.specs.Diagnosis.{AreExplaining}
 abbrev pub stuck_line : List ℕ → Bool → List ℕ
 stuck_line name value = line_of (codes "stuck " ∷ name ∷ codes " " ∷ bit_word value ∷ [])
 
--- the line of an open pin, with the pin and the value that it reads
+-- the line of an open pin, with the pin and the value that it reads; no bytes if there is no such pin
 abbrev pub open_line : Option NetPin → Bool → List ℕ
 open_line None value = []
 open_line (Some pin) value = line_of (codes "open " ∷ pin.part ∷ codes "." ∷ pin.pin ∷ codes " " ∷ bit_word value ∷ [])
 
--- The line of a short of two nets. If one net dominates, the name of that net comes first.
+-- the line of a short, with the word for its kind and the names of its two nets in the order in which the line has them
 abbrev pub short_fault_line : List ℕ → List ℕ → List ℕ → List ℕ
 short_fault_line word x y = line_of (codes "short " ∷ word ∷ codes " " ∷ x ∷ codes " " ∷ y ∷ [])
 
+-- The line of a short of nets `a` and `b`. If one net dominates the other, the line has the name of the dominating net first.
 abbrev pub short_line : Kind → List ℕ → List ℕ → List ℕ
 short_line And a b = short_fault_line (codes "AND") a b
 short_line Or a b = short_fault_line (codes "OR") a b
@@ -43,7 +44,8 @@ fault_line board (Short a b kind) = short_line kind (net_name board a) (net_name
 abbrev pub fail_line : ℕ → List ℕ
 fail_line count = line_of (codes "FAIL " ∷ decimal count ∷ [])
 
--- The text of a diagnosis. It is the line `PASS`, or the line `FAIL` with the number of faults, followed by a line for each fault.
+-- The text of a diagnosis. If `pass` is true, it is the line `PASS`. Otherwise it is the line `FAIL` with the number of faults, followed by
+-- a line for each fault.
 unfoldable pub diag_text : RawBoard → Bool → List Single → List ℕ
 diag_text board true faults = line_of (codes "PASS" ∷ [])
 diag_text board false faults = fail_line (length faults) ++ flat_map (fault_line board) faults

@@ -1,4 +1,4 @@
--- The laws of diagnoses.
+-- Laws of diagnoses: a diagnosis lists exactly the single faults that explain the log, and each log has only one diagnosis.
 use Rattle.std.specs.Prelude.{◌≡◌, ◌↔◌, ℕ, Bool, List, [], AllPairs, Contains}
 use Rattle.board_defs.specs.declared.board.RawBoard.{RawBoard}
 use Rattle.board_defs.specs.declared.fault.Single.{Single}
@@ -9,7 +9,7 @@ use Rattle.tap_defs.specs.board.Explaining.{Explains, IsExpected}
 use Rattle.diagnoser.specs.Diagnosis.{AreExplaining}
 use Rattle.diagnoser.specs.DiagText.{IsDiagText}
 
--- `faults` are exactly the single faults that explain the log, each once and in order
+-- `faults` are exactly the single faults of the board that explain the log, each once and in order
 pub record ListsExplaining (board : RawBoard) (log : List (List Bool)) (faults : List Single) : Type 0 where
   pub exactly : (single : Single) → Contains faults single ↔ (IsSingle board single × Explains board single log)
   pub in_order : AllPairs SinglePrecedes faults

@@ -21,10 +21,11 @@ use std::thread::Threads;
 /// changes the result. The plan must be built from the board's passes. The log must have the plan's rows, each as long as a data scan.
 /// There must be 1 to 64 workers.
 ///
-/// The candidates are the places of the suspects. They are cut into as many pieces as there are workers, and the sizes of the pieces differ
-/// by at most one candidate. Directly before a piece tries a candidate, it enters the gate with two numbers: the number of the piece,
-/// counted from 0, and the candidate's place in the universe. The first half of the pieces runs side by side with the second half. Each
-/// half is halved again in the same way, down to single pieces. If memory runs out in any piece, the call returns the error.
+/// The candidates are the suspects, that is, the places whose faults may explain the log. They are cut into as many pieces as there are
+/// workers, and the sizes of the pieces differ by at most one candidate. Directly before a piece tries a candidate, it enters the gate with
+/// two numbers: the number of the piece, counted from 0, and the candidate's place in the universe. The first half of the pieces runs side
+/// by side with the second half. Each half is halved again in the same way, down to single pieces. If memory runs out in any piece, the
+/// call returns the error.
 pub fn diagnose<R: Threads + Sync, G: Gate>(
     rt: &R,
     alloc: Global,
@@ -48,7 +49,7 @@ pub fn diagnose<R: Threads + Sync, G: Gate>(
     diagnose_logged(rt, alloc, &logged, &nets, Workers::of(workers), gate)
 }
 
-/// Like `diagnose`, but takes the log with its test, and the nets that differ in the log.
+/// Like `diagnose`, but takes the log with its test. `nets` must be the nets that differ in the log.
 pub fn diagnose_logged<R: Threads + Sync, G: Gate>(
     rt: &R,
     alloc: Global,
@@ -68,7 +69,7 @@ pub fn diagnose_logged<R: Threads + Sync, G: Gate>(
     diagnose_in(rt, alloc, logged, &universe, nets, workers, gate)
 }
 
-/// Like `diagnose_logged`, but also takes the universe of the board, which many logs of one test can share.
+/// Like `diagnose_logged`, but also takes the universe, which must be the universe of the board. Many logs of one test can share it.
 pub fn diagnose_in<R: Threads + Sync, G: Gate>(
     rt: &R,
     alloc: Global,

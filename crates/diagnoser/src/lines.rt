@@ -107,7 +107,8 @@ fn put_pair<K: Sink>(
     put_line(&[b"short ".as_slice(), word, b" ", x, b" ", y], line, out)
 }
 
-/// Writes the line of a short of the nets named `a` and `b`. If one net dominates, the name of that net comes first.
+/// Writes the line of a short of the nets named `a` and `b`. If one net dominates the other, the line has the name of the dominating net
+/// first.
 pub fn put_short<K: Sink>(
     kind: Kind,
     a: &[u8],

@@ -12,7 +12,7 @@ use board_defs::{Board, NetPin, PinRef, Single};
 use bt_base::{PutFault, Sink};
 use bt_bits::Line;
 
-// Returns the name of a net.
+// Returns the name of a net, which must be on the board.
 fn net_name(board: &Board, n: u32) -> &[u8]
     requires { n < length board.now.nets }
     ensures { result.now ≡ net_name board.now n }
@@ -20,7 +20,7 @@ fn net_name(board: &Board, n: u32) -> &[u8]
     board.raw().nets.as_slice()[n as usize].name.bytes()
 }
 
-// Returns the pin of the board that `pin` refers to.
+// Returns the pin that `pin` refers to, which must be on the board.
 fn pin_at(board: &Board, pin: PinRef) -> &NetPin
     requires { IsOnBoard board.now pin }
     ensures { pin_at board.now pin ≡ Some result.now }
@@ -63,7 +63,7 @@ fn put_faults<K: Sink>(
     Ok(())
 }
 
-// Writes the line `FAIL` with the number of faults, and then a line for each fault.
+// Writes the line `FAIL` with the number of faults, and then a line for each fault. The nets and pins of the faults must be on the board.
 fn put_list<K: Sink>(
     board: &Board,
     faults: &[Single],
@@ -81,7 +81,7 @@ fn put_list<K: Sink>(
 /// Writes a diagnosis. If `pass` is true, this is the line `PASS`. Otherwise it is the line `FAIL` with the number of faults, followed by a
 /// line for each fault. The nets and pins of the faults must be on the board. A line of at most `MAX_LINE` bytes goes to the sink as one
 /// piece. A longer line goes out in pieces of `MAX_LINE` bytes, and the last piece has the rest. Allocates nothing. `line` is used as a
-/// buffer, and its content afterwards is unspecified. Fails only if the sink fails, which then took a prefix of the text.
+/// buffer, and its content afterwards is unspecified. Fails only if the sink fails. The sink then took a prefix of the text.
 pub fn write_diagnosis<K: Sink>(
     board: &Board,
     pass: bool,

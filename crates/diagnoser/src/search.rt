@@ -16,8 +16,8 @@ use side_by_side::{Piece, in_pieces};
 use std::alloc::{AllocError, Global};
 use std::thread::Threads;
 
-/// A log with its test, the nets that differ in the log, and the candidates. The candidates are the places of the faults that may explain
-/// the log. `telling` is the first net that differs, in the first pass in which this net shows an unexpected bit.
+/// A log with its test, the nets that differ in the log, and the candidates. The candidates are the suspects: the places whose faults may
+/// explain the log. `telling` is the first net that differs, in the first pass in which this net shows an unexpected bit.
 #[derive(Clone, Copy)]
 pub struct Search<'a, 'b> {
     pub logged: &'a LoggedTest<'b>,
@@ -59,8 +59,8 @@ fn explains(search: Search<'_, '_>, fault: Single, _entered: &Entered) -> bool
     search.logged.matches_by(fault, search.nets)
 }
 
-// Enters the gate for a piece, and then returns the fault of candidate `i` if this fault explains the log. `near` speeds up looking up the
-// fault, as in `Universe::candidate`.
+// Enters the gate for the piece with number `piece`. Then returns the fault of candidate `i`, if this fault explains the log. `i` must be
+// below the number of candidates. `near` speeds up looking up the fault, as in `Universe::candidate`.
 fn try_candidate<G: Gate>(
     search: Search<'_, '_>,
     piece: u32,
