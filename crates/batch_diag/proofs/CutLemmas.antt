@@ -30,7 +30,6 @@ pub left_line : (n : ℕ) (left after : Option (List ℕ)) (text line : List ℕ
     → left_at n left ≡ with_line n (words_of line) (left_at (n + 1) after)
 left_line n left after text line is split = ap (left_at n) is ∙ ap (rows_at n) split
 
--- if a line without words is put in front of `later`, `start_fault` stays the same
 pub start_blank : (n : ℕ) (words : List Word) (later : List NumberedLine) → holds_word words ≡ false
     → start_fault (with_line n words later) ≡ start_fault later
 start_blank n [] later none = refl
@@ -42,7 +41,6 @@ pub start_here : (n : ℕ) (words : List Word) (later : List NumberedLine) → h
 start_here n [] later some = absurd cc
 start_here n (word ∷ words) later some = refl
 
--- if a line that is not a wrong title is put in front of `later`, `title_fault` stays the same
 pub title_right : (n : ℕ) (words : List Word) (later : List NumberedLine)
     → (is_title words && not (names_board words)) ≡ false
     → title_fault (with_line n words later) ≡ title_fault later
@@ -55,7 +53,6 @@ pub title_wrong : (n : ℕ) (words : List Word) (later : List NumberedLine)
 title_wrong n [] later wrong = absurd cc
 title_wrong n (word ∷ words) later wrong = ap (λ b. cond b (Some (WrongTitle n)) (title_fault later)) wrong
 
--- a line with words is not empty
 pub worded_line : (line : List ℕ) → holds_word (words_of line) ≡ true → 0 < length line
 worded_line [] some =
     let none : holds_word (words_of []) ≡ false = ap holds_word (words_of_empty [] refl) in
@@ -109,7 +106,6 @@ row_line (b ∷ bs) begins = by_tests (b == 66) (is_line_blank b) refl refl begi
     by_tests false true is is' begins = absurd cc
     by_tests false false is is' begins = no_title_at b bs is' is
 
--- splitting a text at its newlines gives at least one line
 no_part : (text : List ℕ) → slice_split is_newline text ≡ [] → ⊥
 no_part text none =
     let count : length (slice_split is_newline text) ≡ 0 = ap length none in
@@ -151,7 +147,6 @@ first_stays (b ∷ bs) line behind part parts is =
     stays_byte b bs line behind part parts (is_newline b) refl is
     (λ first split. first_stays bs first behind part parts split)
 
--- if `line` is the first line of some text, it is also the first line of the text `line`, a newline and `behind`
 follows : (text line left behind : List ℕ)
     → slice_split is_newline text ≡ line ∷ slice_split is_newline left
     → slice_split is_newline (line ++ 10 ∷ behind) ≡ line ∷ slice_split is_newline behind
@@ -163,7 +158,6 @@ follows text line left behind is = by_parts (slice_split is_newline left) refl i
     by_parts [] none split = absurd (no_part left none)
     by_parts (part ∷ parts) some split = first_stays text line behind part parts split
 
--- if `line` is the first line of a text, and `left` has the other lines, the text is `line`, a newline and `left`
 text_of_first : (text line left : List ℕ) → slice_split is_newline text ≡ line ∷ slice_split is_newline left → text ≡ line ++ 10 ∷ left
 text_of_first text line left is =
     sym (join_with_byte-slice_split 10 text)
@@ -249,7 +243,7 @@ pub record Passed (text : List ℕ) (n k : ℕ) (left : List ℕ) : Type 0 where
   pub count : k ≡ n + length lines
   pub none : NoTitles lines
 
--- like `Passed`, or no line of the whole text is a title if no rest is left
+-- Like `Passed`, if there is a rest. Otherwise no line of the whole text is a title.
 abbrev pub Passes : List ℕ → ℕ → ℕ → Option (List ℕ) → Type 0
 Passes text n k None = NoTitles (slice_split is_newline text)
 Passes text n k (Some left) = Passed text n k left
@@ -268,7 +262,6 @@ pub passed_at : (text : List ℕ) (n k : ℕ) (rest : Option (List ℕ)) (left :
     → Passes text n k rest → rest ≡ Some left → Passed text n k left
 passed_at text n k rest left passes is = subst (λ (o : Option (List ℕ)). Passes text n k o) is passes
 
--- if no line before `left` is a title, and the first line of `left` is not a title, then no line before the rest after this line is a title
 pub passed_line : (text : List ℕ) (n k : ℕ) (left line : List ℕ) (after : Option (List ℕ))
     → Passed text n k left → slice_split is_newline left ≡ line ∷ lines_of after
     → is_title (words_of line) ≡ false → Passes text n (k + 1) after
@@ -300,7 +293,6 @@ passed_line text n k left line (Some more) passed split here = record {
   none = no_titles_more passed.lines line passed.none here;
 }
 
--- if a text is `done` followed by `left`, the first `length text - length left` bytes of the text are `done`
 own_is : (text done left : List ℕ) → text ≡ done ++ left → take (length text - length left) text ≡ done
 own_is text done left is =
     let len : length text - length left ≡ length done + 0 = omega (arith, ap length is, length-append done left) in

@@ -47,14 +47,12 @@ module _ (b : Batch) where
       subst (λ (l : List Block). EachPair (Judges b) l (xs ++ ys)) (sym (range_sum b.blocks.now from middle to low high))
       (each_append (Judges b) (items_between b.blocks.now from middle) (items_between b.blocks.now middle to) xs ys first second)
 
-  -- an empty range of blocks has no verdicts
   judged_none : (i : ℕ) → Judged b i i []
   judged_none i = subst (λ (l : List Block). EachPair (Judges b) l []) (sym (range_none b.blocks.now i)) tt
 
   pub judged_start : (from : ℕ) (none : List Verdict) → none ≡ [] → Judged b from from none
   judged_start from none is = subst (λ (xs : List Verdict). Judged b from from xs) (sym is) (judged_none from)
 
-  -- the verdicts on blocks `from..i`, followed by the verdict on block `i`, are the verdicts on blocks `from..i + 1`
   pub judged_more : (from i : ℕ) (xs more : List Verdict) (x : Verdict) → from ≤ i
       → more ≡ xs ++ x ∷ [] → Judged b from i xs → Judged b i (i + 1) (x ∷ [])
       → Judged b from (i + 1) more
@@ -65,7 +63,6 @@ module _ (b : Batch) where
   pub judged_end : (from i end : ℕ) (xs : List Verdict) → i ≡ end → Judged b from i xs → Judged b from end xs
   judged_end from i end xs same judged = subst (λ (n : ℕ). Judged b from n xs) same judged
 
-  -- if `verdict` is the verdict on block `i`, the list of only `verdict` has the verdicts on blocks `i..i + 1`
   pub judged_one : (i : ℕ) (block : Block) (verdict : Verdict) → i < length b.blocks.now
       → block ≡ get_or b.blocks.now i block → Judges b block verdict
       → Judged b i (i + 1) (verdict ∷ [])
@@ -81,7 +78,7 @@ module _ (b : Batch) where
   judged_by i block less is (Ok verdict) right named = judged_one i block verdict less is (right, named)
   judged_by i block less is (Err e) right named = tt
 
-  -- the verdicts on a range, followed by the verdicts on the range that begins where it ends, are the verdicts on both ranges together
+  -- the verdicts on two adjacent ranges, joined, are the verdicts on both ranges
   judged_ranges : (items : ℕ) {E : Type 0} → IsOfRanges {E = E} items (λ from to said. IfOk said (Judged b from to))
   judged_ranges items = record {
     nothing = judged_none;

@@ -35,7 +35,6 @@ not_wrong line id is word =
 row_not_wrong : (line : NumberedLine) → begins_block line ≡ false → is_wrong_title line ≡ false
 row_not_wrong line row = ap (λ (b : Bool). b && not (names_board line.words)) row
 
--- if no line in `own` is a title, `title_fault` of `own` followed by `later` is `title_fault` of `later`
 rows_right : (own later : List NumberedLine) → All IsRow own → title_fault (own ++ later) ≡ title_fault later
 rows_right [] later rows = refl
 rows_right (line ∷ own) later rows =
@@ -113,7 +112,7 @@ module _ (rows len : ℕ) where
       ∙ ap (λ (log : LogAnswer). block_then block.id n log (logs_from rows len (n + 1) (blocks_of later))) is.log
       ∙ ap (onto block) (said (n + 1) later blocks more)
 
-  -- The lines are some lines that are not titles, followed by the lines of `blocks`. This record is for the converse.
+  -- The lines begin with lines that are not titles. The other lines are the lines of `blocks`.
   record Split (lines : List NumberedLine) (blocks : List Block) : Type 0 where
     own : List NumberedLine
     later : List NumberedLine
@@ -229,7 +228,6 @@ module _ (rows len : ℕ) where
       let faults = right_behind line lines (is_wrong_title line) refl none in
       split_line n line lines blocks (begins_block line) refl faults.0 is (λ m later said. split m lines later faults.1 said)
 
-  -- if no line is before the first title, and the lines are split into `blocks`, then the lines are the lines of `blocks`
   from_start : (lines : List NumberedLine) (blocks : List Block) → start_fault lines ≡ None
       → Split lines blocks → AreBlocksOf rows len lines blocks
   from_start lines blocks none split =
@@ -249,7 +247,7 @@ module _ (rows len : ℕ) where
       by_lines [] none = refl
       by_lines (line ∷ lines) none = by_line line lines (begins_block line) refl none
 
-  -- no line is before the first title, no title has a fault, and the lines of each block are a log
+  -- no line is before the first title, no title is wrong, and the lines of the blocks give the logs of `blocks`
   pub record NoFault (lines : List NumberedLine) (blocks : List Block) : Type 0 where
     pub start : start_fault lines ≡ None
     pub titles : title_fault lines ≡ None
@@ -315,7 +313,6 @@ front (line ∷ lines) = by_title (begins_block line) refl (front lines)
 abbrev IsRight : NumberedLine → Type 0
 IsRight line = is_wrong_title line ≡ false
 
--- if `title_fault` finds no fault, no line is a wrong title
 all_right : (lines : List NumberedLine) → title_fault lines ≡ None → All IsRight lines
 all_right [] none = All-nil IsRight
 all_right (line ∷ lines) none = by_wrong (is_wrong_title line) refl none (all_right lines)
@@ -576,7 +573,7 @@ module _ (rows len : ℕ) where
   first_fault lines fault (Some other) title start title_is is =
       let same : other ≡ fault = cc in start_first lines fault (start ∙ ap Some same)
 
-  -- The converse: the first fault is the fault in the answer. If no line is before the first title, `start_fault` finds no fault.
+  -- The lemmas from here on prove the converse: the first fault is the fault in the answer.
   starts : (lines : List NumberedLine) → up_to_title lines ≡ [] → start_fault lines ≡ None
   starts [] none = refl
   starts (line ∷ lines) none = by_title (begins_block line) refl

@@ -168,7 +168,6 @@ blocks_placed n front (text ∷ texts) none titles below =
     { id = id_of (words_of text.title); lines = rows_at (m + 1) text.below } ∷ bs)
     (blocks_placed (m + 1) text.below texts own later (All-tail HasRows text texts below))
 
--- if a line that is not a title is put in front of `rows` and `later`, `title_fault` stays the same
 title_front : (n : ℕ) (words : List Word) (rows later : List NumberedLine) → is_title words ≡ false
     → title_fault (rows ++ later) ≡ title_fault later
     → title_fault (with_line n words rows ++ later) ≡ title_fault later
@@ -292,7 +291,7 @@ onto_fails : (block : Block) (rest : BatchAnswer) (fault : BatchFault) → onto 
 onto_fails block (Ok more) fault is = absurd cc
 onto_fails block (Err other) fault is = cc
 
--- Lemmas about the answer for blocks. It follows from the answers for each block's own text.
+-- Lemmas which say that the answer for the blocks follows from the answer for each block's own text.
 module _ (rows len : ℕ) where
   abbrev Rest : ℕ → ℕ → BlockText → List BlockText → BatchAnswer
   Rest k m text texts = logs_from rows len (k + 1) (placed (m + 1 + length text.below) texts)
@@ -501,7 +500,6 @@ module _ (rows len : ℕ) where
         (logs_from rows len 1 (blocks_of (row_lines text))))) start
         ∙ ap (λ (o : Option BatchFault). unless_wrong o (logs_from rows len 1 (blocks_of (row_lines text)))) titles ∙ logs
 
--- the fault that `start_fault` finds is not the fault of a block
 no_inner_start : (lines : List NumberedLine) (board : ℕ) (fault : LogFault) → start_fault lines ≡ Some (Inner board fault) → ⊥
 no_inner_start [] board fault is = absurd cc
 no_inner_start (line ∷ lines) board fault is = by_test (begins_block line) is

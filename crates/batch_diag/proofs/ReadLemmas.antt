@@ -35,7 +35,6 @@ abbrev pub titles_left : Option Title → ℕ
 titles_left None = 0
 titles_left (Some title) = 1 + length title.behind.now
 
--- if the first block holds a log, the answer is this block in front of the blocks of the answer for the later blocks
 block_holds : (id : Word) (board n : ℕ) (said : LogAnswer) (log : List (List Bool))
     (later : BatchAnswer) → in_block n said ≡ Ok log
     → block_then id board said later ≡ onto (record { id = id; log = log }) later
@@ -49,7 +48,6 @@ block_fails : (id : Word) (board : ℕ) (said : LogAnswer) (fault : BatchFault) 
 block_fails id board (Ok log) fault later is = absurd cc
 block_fails id board (Err inner) fault later is = cc
 
--- putting a block in front of the joined answer gives the same as putting it in front of the first answer before joining the answers
 then_onto : (block : Block) (said later : BatchAnswer) → onto block (said_then said later) ≡ said_then (onto block said) later
 then_onto block (Ok blocks) (Ok later) = refl
 then_onto block (Ok blocks) (Err fault) = refl
@@ -74,7 +72,7 @@ logs_append rows len n (x ∷ xs) ys =
     (block_then x.id n (rows_of_lines rows len x.lines) (logs_from rows len (n + 1) xs))
     (logs_from rows len k ys)) number
 
--- Lemmas about the joined answer for two parts of the blocks. It follows from what was read of each part.
+-- Lemmas which say that the joined answer for two parts of the blocks follows from what was read of each part.
 module _ {V : Type 0} (view : V → List Block) (rows len : ℕ) (said later : BatchAnswer) where
   pub read_first : (fault : BatchFault) → IfSome (batch_told fault) (λ f. said ≡ Err f)
       → IfSome (batch_told fault) (λ f. said_then said later ≡ Err f)
@@ -112,7 +110,6 @@ module _ (r : Reading) where
       ∙ logs_append r.rows r.len (from + 1) first second
       ∙ ap (λ (n : ℕ). said_then (said_between r from middle) (logs_from r.rows r.len n second)) number
 
-  -- the answer for an empty range of blocks is a list of no blocks
   said_nothing : (i : ℕ) → said_between r i i ≡ Ok []
   said_nothing i = ap (λ (l : List UnreadBlock). logs_from r.rows r.len (i + 1) (map lines_of_unread l)) (range_none r.unread.items i)
 
@@ -132,8 +129,6 @@ module _ (r : Reading) where
         (range_one r.unread.items i block less
         (sym (get_or_from_slice_get r.unread.items i block block at)))
 
-    -- if blocks `from..i` are read as `found`, and block `i` holds a log, then blocks `from..i + 1` are read as `found` followed by block
-    -- `i`
     pub read_more : (from board : ℕ) (found more : List Block) (read : Block) → from ≤ i
         → said_between r from i ≡ Ok found → read.id ≡ block.id.now
         → in_block board own ≡ Ok read.log → more ≡ found ++ read ∷ []
@@ -160,7 +155,7 @@ module _ (r : Reading) where
   pub read_end : (from i end : ℕ) (found : List Block) → i ≡ end → said_between r from i ≡ Ok found → said_between r from end ≡ Ok found
   read_end from i end found same said = ap (λ (n : ℕ). said_between r from n) (sym same) ∙ said
 
-  -- `said` is a right result of reading blocks `from..to`
+  -- `said` is a correct result of reading blocks `from..to`
   abbrev ReadBetween : ℕ → ℕ → BatchAnswer → Type 0
   ReadBetween from to said = AreBlocksRead (λ (l : List Block). l) r.rows r.len (said_between r from to) said
 
@@ -220,7 +215,6 @@ module _ (r : Reading) where
     all_said : said_between r 0 (length r.unread.items) ≡ said_of r
     all_said = ap (λ (l : List UnreadBlock). logs_from r.rows r.len 1 (map lines_of_unread l)) (range_whole r.unread.items)
 
-    -- if a result is right for the range of all blocks of the reading, it is right for the reading
     read_all : (answer : Result V BatchFault)
         → ReadBetween 0 (length r.unread.items) (seen_list view answer)
         → AreBlocksRead view r.rows r.len (said_of r) answer
@@ -230,7 +224,7 @@ module _ (r : Reading) where
         (λ (s : BatchAnswer). AreBlocksRead (λ (l : List Block). l) r.rows r.len s
         (seen_list view answer)) all_said read)
 
-    -- if the result of each piece is right for the piece's blocks, the joined result is right for the reading
+    -- if the result of each piece is correct for the piece's blocks, the joined result is correct for the reading
     pub read_of_pieces : (items pieces : ℕ) → 0 < pieces → items ≡ length r.unread.items
         → (Gives : Piece → Result V BatchFault → Type 0) (result : Result V BatchFault)
         → GivesTogether view Gives (λ fault. fault ≡ Memory alloc_error) items pieces result →
@@ -255,7 +249,6 @@ module _ (r : Reading) where
     read_end_all end answer is read =
         subst (λ (s : BatchAnswer). AreBlocksRead view r.rows r.len s answer) (ap (λ (n : ℕ). said_between r 0 n) is ∙ all_said) read
 
-    -- if the answer for a text is the answer for the reading, a result that is right for the reading is right for the text
     pub read_text : (rows len : ℕ) (said : BatchAnswer) (answer : Result V BatchFault)
         → said ≡ said_of r → r.rows ≡ rows → r.len ≡ len
         → AreBlocksRead view r.rows r.len (said_of r) answer
@@ -265,8 +258,8 @@ module _ (r : Reading) where
         (subst (λ (n : ℕ). AreBlocksRead view n r.len said answer) same_rows
         (subst (λ (s : BatchAnswer). AreBlocksRead view r.rows r.len s answer) (sym is) read))
 
--- If the cut blocks, followed by the blocks from the next title on, are the blocks of a text, this is still so after the block of the next
--- title is cut too.
+-- One step of the loop over the titles: the block of the title `next` is appended to `unread`. The blocks of the text are still those in
+-- `unread`, followed by the blocks from the next title on.
 pub cut_more : (lines : List BlockLines) (unread : List UnreadBlock) (next following : Option Title)
     (title : Title) (own : List ℕ) (block : UnreadBlock) → next ≡ Some title
     → lines ≡ map lines_of_unread unread ++ blocks_at next →
@@ -294,7 +287,6 @@ cut_all lines unread next is now =
     now ∙ ap (λ (o : Option Title). map lines_of_unread unread ++ blocks_at o) is
     ∙ append-nil (map lines_of_unread unread)
 
--- the fault that `start_fault` finds is a fault of the lines, and not the fault of a block
 pub start_of_lines : (lines : List NumberedLine) (fault : BatchFault) → start_fault lines ≡ Some fault → IsOfLines fault
 start_of_lines [] fault is = absurd cc
 start_of_lines (line ∷ lines) fault is = by_test (begins_block line) is
@@ -331,7 +323,6 @@ unless_title start title said fault none is =
     (λ f fails. ap (λ (o : Option BatchFault). unless_wrong o (unless_wrong title said)) none
     ∙ fails)
 
--- if `start` and `title` are None, a result for the answer `said` is a result for the answer of the whole text
 pub unless_none : {V : Type 0} (view : V → List Block) (result : Result V BatchFault)
     (start title : Option BatchFault) (said : BatchAnswer) → start ≡ None → title ≡ None
     → Gives batch_told view (λ answer. said ≡ answer) result
@@ -342,7 +333,6 @@ unless_none view result start title said no_start no_title gives =
     ∙ ap (λ (o : Option BatchFault). unless_wrong o said) no_title in
     subst (λ (s : BatchAnswer). Gives batch_told view (λ answer. s ≡ answer) result) (sym same) gives
 
--- if `start` and `title` are None, the answer for the text is the answer for its blocks
 pub unread_said : (rows len : ℕ) (start title : Option BatchFault) (lines blocks : List BlockLines)
     → start ≡ None → title ≡ None → lines ≡ blocks
     → unless_wrong start (unless_wrong title (logs_from rows len 1 lines))
@@ -353,8 +343,7 @@ unread_said rows len start title lines blocks no_start no_title same =
     ∙ ap (λ (o : Option BatchFault). unless_wrong o (logs_from rows len 1 lines)) no_title
     ∙ ap (logs_from rows len 1) same
 
--- If the number of blocks is less than the line number of a title, then, after the title's block is added, the number of blocks is less
--- than the line number of the next title.
+-- one step of the loop over the titles: the number of blocks stays below the line number of the next title
 pub next_count : (following : Option Title) (blocks : List UnreadBlock) (block : UnreadBlock)
     (line : ℕ) → length blocks < line → IfSome following (λ title. line + 1 ≤ title.line)
     → IfSome following (λ title. length (blocks ++ block ∷ []) < title.line)

@@ -36,7 +36,7 @@ one_batch_text one board (block ∷ blocks) text other (diagnosis, later, is, ar
 abbrev pub texts_after : RawBoard → List Block → List Verdict → ℕ → List ℕ
 texts_after board blocks verdicts i = batch_text board (drop i blocks) (drop i verdicts)
 
--- a sink that prints `rest` from the state `now` on has printed `whole` from the state `start` on, with the same result
+-- if a sink in the state `now` prints `rest`, it has printed `whole` since the state `start`, with the same result
 abbrev pub Completes : Shown → Shown → List ℕ → List ℕ → Type 0
 Completes start now rest whole =
     (new : Shown) (r : Result (Unit {0}) PutFault) → Prints now new [] [] rest r
@@ -86,7 +86,7 @@ module _ (board : RawBoard) (blocks : List Block) (verdicts : List Verdict) (sam
       (ap (λ (bs : List Block). batch_text board bs (drop i verdicts))
       (drop_all i blocks past))) (prints_none tt refl))
 
--- if there is a block, the text of the blocks is not empty, so printing it puts it
+-- if there is a block, the text of the blocks is not empty, so `Prints` implies `Puts`
 pub puts_some : {T E : Type 0} {old new : Shown} {r : Result T E} (board : RawBoard)
     (blocks : List Block) (verdicts : List Verdict) → length verdicts ≡ length blocks
     → 0 < length blocks → Prints old new [] [] (batch_text board blocks verdicts) r
@@ -95,7 +95,7 @@ puts_some board [] verdicts same some prints = absurd (omega (arith, some))
 puts_some board (block ∷ blocks) [] same some prints = absurd (omega (arith, same))
 puts_some board (block ∷ blocks) (verdict ∷ verdicts) same some prints = puts_of prints
 
--- if there are no blocks, putting no bytes puts the text of the blocks
+-- if there are no blocks, the text of the blocks is empty
 pub puts_none : {T E : Type 0} {old new : Shown} {r : Result T E} (board : RawBoard)
     (blocks : List Block) (verdicts : List Verdict) → true ≡ (length blocks == 0)
     → Puts old new [] r → Puts old new (batch_text board blocks verdicts) r

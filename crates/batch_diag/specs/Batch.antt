@@ -9,7 +9,7 @@ use Rattle.batch_diag.specs.declared.block.Block.{Block}
 use Rattle.batch_diag.specs.declared.fault.BatchFault.{BatchFault}
 use Rattle.batch_diag.specs.declared.fault.BatchFault.TheVariants.{Start, Title, Inner, Memory}
 
--- the first word of the line is `BOARD`
+-- true if the first word of the line is `BOARD`; such a line is a title
 abbrev pub is_title : List Word → Bool
 is_title [] = false
 is_title (word ∷ words) = bytes_eq word (codes "BOARD")
@@ -26,13 +26,13 @@ abbrev pub id_of : List Word → Word
 id_of [] = []
 id_of (word ∷ words) = first_or_none words
 
--- there is exactly one word, and this word keeps the word rule
+-- True if there is exactly one word and it keeps the word rule. The rule is that a word has 1 to 255 bytes, each from 33 to 126.
 abbrev pub is_id : List Word → Bool
 is_id [] = false
 is_id (id ∷ []) = is_word id
 is_id (id ∷ other ∷ words) = false
 
--- exactly one word follows the first word, and this second word keeps the word rule
+-- true if exactly one word follows the first word, and this second word keeps the word rule
 abbrev pub names_board : List Word → Bool
 names_board [] = false
 names_board (word ∷ words) = is_id words
@@ -45,7 +45,7 @@ abbrev pub start_fault : List NumberedLine → Option BatchFault
 start_fault [] = None
 start_fault (line ∷ lines) = if begins_block line then None else Some (Start line.number)
 
--- the fault of the first title that has no id, more than an id, or an id that breaks the word rule
+-- the fault of the first wrong title, which has no id, more than an id, or an id that breaks the word rule
 abbrev pub title_fault : List NumberedLine → Option BatchFault
 title_fault [] = None
 title_fault (line ∷ lines) = if is_wrong_title line then Some (Title line.number) else title_fault lines
@@ -74,8 +74,8 @@ abbrev pub onto : Block → BatchAnswer → BatchAnswer
 onto block (Ok blocks) = Ok (block ∷ blocks)
 onto block (Err fault) = Err fault
 
--- The answer for a block and the later blocks. If the block's lines are a log, it is the later answer with the block in front. Otherwise it
--- is the block's fault.
+-- The answer for a block and the later blocks. If the block's lines are a log, it is `later` with the block in front. Otherwise it is the
+-- block's fault. `board` is the block's number.
 abbrev pub block_then : Word → ℕ → Result (List (List Bool)) LogFault → BatchAnswer → BatchAnswer
 block_then id board (Ok log) later = onto (record { id = id; log = log }) later
 block_then id board (Err fault) later = Err (Inner board fault)
@@ -104,12 +104,12 @@ blocks_of_lines rows len lines =
 abbrev pub blocks_of_text : List ℕ → ℕ → ℕ → BatchAnswer
 blocks_of_text text rows len = blocks_of_lines rows len (row_lines text)
 
--- the fault, or `None` for lack of memory, which no definition describes
+-- the fault, or `None` if it is lack of memory; the definitions do not say when memory runs out
 abbrev pub batch_told : BatchFault → Option BatchFault
 batch_told (Memory e) = None
 batch_told fault = Some fault
 
--- if the fault is the fault of a block, it is a fault of the block's lines, and not lack of memory
+-- true unless the fault is a block's fault that reports lack of memory; `Memory` reports lack of memory instead
 abbrev pub IsOfLines : BatchFault → Type 0
 IsOfLines (Start n) = Unit {0}
 IsOfLines (Title n) = Unit {0}

@@ -10,7 +10,7 @@ use Rattle.batch_diag.specs.declared.verdict.Verdict.{Verdict}
 abbrev pub title_line : List ℕ → List ℕ
 title_line id = line_of (codes "BOARD " ∷ id ∷ [])
 
--- a block's title and the text of its verdict
+-- a block's title, followed by the text of the diagnosis in its verdict
 abbrev pub block_text : RawBoard → Block → Verdict → List ℕ
 block_text board block verdict = title_line block.id ++ diag_text board verdict.pass verdict.faults
 
@@ -20,7 +20,7 @@ batch_text board [] verdicts = []
 batch_text board (block ∷ blocks) [] = []
 batch_text board (block ∷ blocks) (verdict ∷ verdicts) = block_text board block verdict ++ batch_text board blocks verdicts
 
--- for each block, in order, the text has the block's title and the diagnosis of the block's log
+-- for each block, in order, the text has the block's title and a diagnosis of the block's log
 abbrev pub IsBatchText : RawBoard → List Block → List ℕ → Type 0
 IsBatchText board [] text = text ≡ []
 IsBatchText board (block ∷ blocks) text =

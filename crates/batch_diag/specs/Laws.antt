@@ -1,4 +1,4 @@
--- The laws of batches.
+-- Laws of batches: which texts are batches, which fault is reported, and which text the diagnoses make.
 use Rattle.std.specs.Prelude.{◌≡◌, ◌↔◌, ℕ, ◌+◌, true, false, List, [], ◌∷◌, ◌++◌, length, All, Ok, Err, codes}
 use Rattle.text_lines.specs.Words.{is_word}
 use Rattle.response_log.specs.LogRows.{NumberedLine, row_lines, rows_of_lines}
@@ -11,7 +11,7 @@ use Rattle.batch_diag.specs.Batch.{begins_block, is_wrong_title, up_to_title, bl
 use Rattle.batch_diag.specs.Verdicts.{AreVerdicts}
 use Rattle.batch_diag.specs.BatchText.{batch_text, IsBatchText}
 
--- The title and these lines give the block. The title has the block's id, none of the lines is a title, and the lines are the block's log.
+-- `title` and `lines` give `block`: the title has the block's id, none of the lines is a title, and the lines are the block's log
 pub record IsBlockOf (rows len : ℕ) (title : NumberedLine) (lines : List NumberedLine) (block : Block) : Type 0 where
   pub words : title.words ≡ codes "BOARD" ∷ block.id ∷ []
   pub id : is_word block.id ≡ true
@@ -36,8 +36,9 @@ BlocksAreTheLines =
 abbrev pub AreRight : List NumberedLine → Type 0
 AreRight lines = All (λ line. is_wrong_title line ≡ false) lines
 
--- `Start` is the fault of the first line, if this line is not a title. `Title` is the fault of the first wrong title, if the first line is
--- a title. `Inner` is the fault of the first block whose lines are not a log, if no title is wrong and each line comes after a title.
+-- The fault is the first fault of the lines. `Start` is the fault of the first line, if this line is not a title. `Title` is the fault of
+-- the first wrong title, if the first line is a title. `Inner` is the fault of the first block whose lines are not a log, if no title is
+-- wrong and each line comes after a title.
 abbrev pub IsFirstFault : ℕ → ℕ → List NumberedLine → BatchFault → Type 0
 IsFirstFault rows len lines (Start n) =
     (line : NumberedLine) × (later : List NumberedLine) × (begins_block line ≡ false)
@@ -61,7 +62,7 @@ FaultIsTheFirst =
     (text : List ℕ) (rows len : ℕ) (fault : BatchFault)
     → (blocks_of_text text rows len ≡ Err fault) ↔ IsFirstFault rows len (row_lines text) fault
 
--- `batch_text` of the verdicts on the blocks is the text of the batch
+-- if the verdicts are the verdicts on the blocks, `batch_text` gives the text of the batch's diagnoses
 abbrev pub VerdictsMakeText : Type 0
 VerdictsMakeText =
     (board : RawBoard) (blocks : List Block) (verdicts : List Verdict)

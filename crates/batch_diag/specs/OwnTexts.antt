@@ -1,4 +1,4 @@
--- Each block of a batch as a text of its own. The lines below the block's title are this text, which holds the block's log.
+-- Each block of a batch, read as a text of its own. This text has the lines below the block's title, and it holds the block's log.
 use Rattle.std.specs.Prelude.{◌≡◌, ◌↔◌, ℕ, ◌+◌, Bool, true, false, List, [], ◌∷◌, ◌++◌, length, All, Ok, Err, codes}
 use Rattle.std.specs.List.{slice_split, join_with_byte, flat_map}
 use Rattle.text_lines.specs.Words.{is_newline, is_word, words_of}
@@ -50,15 +50,14 @@ pub record HoldsBlocks (text : List ℕ) (rows len : ℕ) (blocks : List Block) 
   pub cut : IsCutTo text front texts
   pub each : EachPair (HoldsBlock rows len) texts blocks
 
--- A text is a batch of these blocks if and only if its titles have the ids of the blocks, in order, and the own text below each title holds
--- the log of the title's block.
+-- A text is a batch of these blocks if and only if it has, for each block in order, a title with the block's id, and the text below this
+-- title holds the block's log.
 abbrev pub BlocksByThemselves : Type 0
 BlocksByThemselves =
     (text : List ℕ) (rows len : ℕ) (blocks : List Block)
     → (blocks_of_text text rows len ≡ Ok blocks) ↔ HoldsBlocks text rows len blocks
 
--- The fault of a text that is a part of a longer text. It has its line number in the longer text, in which `before` lines come before the
--- part.
+-- The fault of a text, with its line number in a longer text. In the longer text, `before` lines come before this text.
 abbrev pub moved_fault : ℕ → LogFault → LogFault
 moved_fault before (Digit n) = Digit (before + n)
 moved_fault before (Length n) = Length (before + n)
@@ -102,7 +101,7 @@ AreDiagnosesOf board rows len (block ∷ blocks) out =
     × AreDiagnosesOf board rows len blocks later
     × (out ≡ title_line (id_of (words_of block.title)) ++ (diagnosis ++ later))
 
--- below each title, the text of a batch has the diagnosis of the log that the block's own text holds
+-- the text of a batch's diagnoses has, below each title, the diagnosis of the log that the block's own text holds
 abbrev pub DiagnosesByThemselves : Type 0
 DiagnosesByThemselves =
     (board : RawBoard) (text : List ℕ) (rows len : ℕ) (blocks : List Block) (out : List ℕ)

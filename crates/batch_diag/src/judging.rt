@@ -81,7 +81,7 @@ pub fn diagnose_blocks<R: Threads + Sync, G: Gate>(
     judge_kept(rt, alloc, test, &kept, blocks, workers, gate)
 }
 
-// Like `diagnose_blocks`, but also takes the kept passes, which make the diagnoses faster.
+// Like `diagnose_blocks`, but also takes kept passes, which must be kept passes of this test. They make the diagnoses faster.
 fn judge_kept<R: Threads + Sync, G: Gate>(
     rt: &R,
     alloc: Global,
@@ -131,8 +131,8 @@ fn judge_all<R: Threads + Sync, G: Gate>(
     judge_pieces(rt, alloc, batch, workers, gate)
 }
 
-// Returns the verdict on a log, which one worker finds. The function takes the entry of the gate so that no log is judged before
-// the gate is entered.
+// Returns the verdict on a log. One worker finds it. The universe must be the universe of the board. The function takes the entry of the
+// gate so that no log is judged before the gate is entered.
 fn verdict_on<R: Threads + Sync>(
     rt: &R,
     alloc: Global,
@@ -162,7 +162,7 @@ fn verdict_on<R: Threads + Sync>(
     })
 }
 
-// Returns the verdict on block `i`. First enters the gate for the piece with number `piece`.
+// Enters the gate for the piece with number `piece`. Then returns the verdict on block `i`. `i` must be below the number of blocks.
 fn judge<R: Threads + Sync, G: Gate>(
     rt: &R,
     alloc: Global,

@@ -17,9 +17,9 @@ pub fn fault_is_the_first()
     ensures { FaultIsTheFirst }
 {}
 
-/// Each block is read and diagnosed as if it were alone. The lines below its title are a text that holds its log. If this text does
-/// not hold a log, the reported fault is the fault of this text, with its line number in the whole text. Below the title, the
-/// output has the diagnosis of the log that this text holds.
+/// Each block is read and diagnosed as if it were alone. The lines below its title are a text that holds its log. If the reported fault is
+/// the fault of a block, it is the fault of this text, with its line number in the whole text. Below the title, the output has the
+/// diagnosis of the log that this text holds.
 pub fn blocks_stand_by_themselves()
     ensures logs { BlocksByThemselves }
     ensures fault { FaultByItself }

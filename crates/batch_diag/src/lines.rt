@@ -32,8 +32,8 @@ fn has_words(line: &[u8]) -> bool
     next_word(line).is_some()
 }
 
-// Returns whether the first byte of the line is a byte with which no title begins. Most rows begin with such a byte, so their words need
-// not be read.
+// Returns whether the line begins with a byte with which no title can begin. Most rows begin with such a byte, so their words need not be
+// read.
 fn begins_row(line: &[u8]) -> bool
     ensures { result ≡ begins_row line.now }
 {
@@ -76,7 +76,7 @@ fn id_of(line: &[u8]) -> &[u8]
     }
 }
 
-// Returns whether the line has exactly one word and this word keeps the word rule.
+// Returns whether the line has exactly one word and this word keeps the word rule (see `is_word`).
 fn is_id(line: &[u8]) -> bool
     ensures { result ≡ is_id (words_of line.now) }
 {
@@ -86,7 +86,7 @@ fn is_id(line: &[u8]) -> bool
     }
 }
 
-// Returns whether exactly one word follows the first word of the line and this word keeps the word rule.
+// Returns whether exactly one word follows the first word of the line and this second word keeps the word rule.
 fn names_board(line: &[u8]) -> bool
     ensures { result ≡ names_board (words_of line.now) }
 {
@@ -103,7 +103,7 @@ fn is_wrong_title(line: &[u8]) -> bool
     is_title(line) && !names_board(line)
 }
 
-/// Returns the fault of a text's first line with words, if this line is not a title.
+/// Returns the fault of a text's first line with words, if this line is not a title. The text must have fewer than 2^32 bytes.
 pub fn start_fault(text: &[u8]) -> Option<BatchFault>
     requires { length text.now < 2 ^ 32 }
     ensures { result ≡ start_fault (row_lines text.now) }
@@ -133,7 +133,7 @@ fn no_title(line: &[u8], number: u32) -> Option<BatchFault>
 }
 
 /// Returns the fault of the first wrong title of a text. A title is wrong if it does not have exactly two words or its id breaks the word
-/// rule.
+/// rule. The text must have fewer than 2^32 bytes.
 pub fn title_fault(text: &[u8]) -> Option<BatchFault>
     requires { length text.now < 2 ^ 32 }
     ensures { result ≡ title_fault (row_lines text.now) }
@@ -158,8 +158,8 @@ fn or_nothing(text: Option<&[u8]>) -> &[u8]
     text.unwrap_or(b"")
 }
 
-/// Cuts a text at its first title. Returns the text before the title, and the title. If the text has no title, returns the whole
-/// text. The first line of the text has the number `number`.
+/// Cuts a text at its first title. Returns the text before the title, and the title. If the text has no title, returns the whole text. The
+/// first line of the text has the number `number`. The sum of `number` and the length of the text must be below 2^33.
 pub fn cut_at_title(text: &[u8], number: usize) -> (&[u8], Option<Title<'_>>)
     requires { number + length text.now < 2 ^ 33 }
     ensures own { up_to_title (rows_from number text.now) ≡ rows_from number result.0.now }
@@ -187,7 +187,7 @@ pub fn cut_at_title(text: &[u8], number: usize) -> (&[u8], Option<Title<'_>>)
     (text, None)
 }
 
-/// Returns the blocks of a text. Wrong titles begin blocks as well.
+/// Returns the blocks of a text, before their logs are read. Wrong titles begin blocks as well. The text must have fewer than 2^32 bytes.
 pub fn list_blocks(alloc: Global, text: &[u8]) -> Result<Vec<UnreadBlock<'_>>, AllocError>
     requires { length text.now < 2 ^ 32 }
     ensures blocks { IfOk result

@@ -15,8 +15,8 @@ use side_by_side::{Piece, in_pieces};
 use std::alloc::Global;
 use std::thread::Threads;
 
-/// Reads the blocks of a batch, each with a log of `rows` rows of `len` bits each. The text may have any bytes. A text without words has no
-/// blocks.
+/// Reads the blocks of a batch, each with a log of `rows` rows of `len` bits each. The text may have any bytes, but must have fewer than
+/// 2^32. A text without words has no blocks.
 ///
 /// If a line with words comes before the first title, the error is `Start` with the number of the first such line. Otherwise, if a title
 /// does not have exactly two words or its id breaks the word rule, the error is `Title` with the number of the first such line. Otherwise,
@@ -77,7 +77,8 @@ fn count(reading: &Reading<'_>) -> usize
     reading.unread.len()
 }
 
-// Returns the blocks of a text before their logs are read, or the fault of a line before the first title or of a wrong title.
+// Returns the blocks of a text before their logs are read, or the fault of a line before the first title or of a wrong title. The text must
+// have fewer than 2^32 bytes.
 fn reading_of(alloc: Global, bytes: &[u8], rows: u64, len: u32) -> Result<Reading<'_>, BatchFault>
     requires { length bytes.now < 2 ^ 32 }
     ensures said { IfOk result (λ reading. blocks_of_text bytes.now rows len ≡ said_of reading) }
@@ -97,7 +98,7 @@ fn reading_of(alloc: Global, bytes: &[u8], rows: u64, len: u32) -> Result<Readin
     Ok(Reading { unread, rows, len })
 }
 
-// Returns block `i`, before its log is read.
+// Returns block `i`, before its log is read. `i` must be below the number of blocks.
 fn unread_at<'a>(reading: &Reading<'a>, i: usize) -> UnreadBlock<'a>
     requires short { AreShortBlocks reading.now.unread.items }
     requires block { i < length reading.now.unread.items }
@@ -200,8 +201,9 @@ fn read_log(
     }
 }
 
-// Returns the fault of block `board`. `fault` is the fault of the text below the block's title. `before` lines of the whole text come
-// before this text. `last` must be at least the line number in `fault`.
+// Returns the fault of block `board`. `fault` is the fault of the text below the block's title, and `before` lines of the whole text come
+// before this text. Lack of memory becomes `BatchFault::Memory`. `last` must be at least the line number in `fault`, and `before + last`
+// must be below 2^32.
 fn inner(board: u32, before: u32, last: u32, fault: LogFault) -> BatchFault
     requires last { IsUpTo last fault }
     requires few { before + last < 2 ^ 32 }

@@ -26,8 +26,8 @@ said_between r from to = logs_from r.rows r.len (from + 1) (map lines_of_unread 
 abbrev pub said_of : Reading → BatchAnswer
 said_of r = logs_from r.rows r.len 1 (map lines_of_unread r.unread.items)
 
--- The result is the answer `said`, or lack of memory. All logs in the result have this size. If the result is the fault of a block, it is a
--- fault of the block's lines.
+-- The result is the answer `said`, or lack of memory. All logs in the result have `rows` rows of `len` bits. A block's fault in the result
+-- never reports lack of memory.
 abbrev pub AreBlocksRead : {V : Type 0} → (V → List Block) → ℕ → ℕ → BatchAnswer → Result V BatchFault → Type 0
 AreBlocksRead view rows len said result =
     Gives batch_told view (λ answer. said ≡ answer) result

@@ -6,7 +6,7 @@ use Rattle.batch_diag.specs.Batch.{title_fault}
 use Rattle.batch_diag.proofs.CutLemmas.{left_at}
 use Rattle.batch_diag.proofs.lines.title_fault.Given as goal
 
--- the first fault of a title is the same in the whole text and in `rest`
+-- `title_fault` is the same for the whole text and for `rest`
 abbrev pub invariant-loop-rest : goal.invariant-loop-rest
 invariant-loop-rest l = record {
   said : title_fault (row_lines l.text) ≡ title_fault (left_at l.number (option_copied l.rest));
