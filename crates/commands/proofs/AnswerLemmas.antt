@@ -1,4 +1,4 @@
--- Lemmas about the answer of a command. The answer follows from what the command finds and from what the sink takes.
+-- Lemmas which say that the answer of a command follows from what the command finds and from what the sink takes.
 use Rattle.std.proofs.Common.{◌≡◌, ℕ, Result, Ok, Err, refl, subst, inl, inr}
 use Rattle.std.specs.Prelude.{IfSome}
 use Rattle.bt_base.specs.Puts.{Puts, Shown, Takes}
@@ -47,7 +47,7 @@ cut_short {T} {E} {e} {r} old new text puts err =
     let short = subst (λ (q : Result T E). Puts old new text q) err puts in
     record { rose = short.cause; bytes = short.cut.0; takes = short.cut.1 }
 
--- P holds for the result of writing a text if it holds in each of three cases. The sink takes the whole text, the sink takes some first
+-- P holds for the result of writing a text if it holds in each of three cases: the sink takes the whole text, the sink takes some first
 -- bytes, or memory runs out.
 by_put : (P : Result (Unit {0}) Unput → Type 0) (text : Text) (old new : Shown)
     (result : Result (Unit {0}) Unput) → PutsText text old new result
@@ -84,7 +84,6 @@ text_judged IsFound text_of IsWorth value found old new result put worth =
     { rose = cut.rose; value = value; found = found; bytes = cut.bytes; takes = cut.takes })
     (λ same. same)
 
--- if reading the texts of a board gives this fault, the reason that `unput_of` makes from it says why there is no board
 pub no_board : (texts : BoardTexts) (fault : InputFault)
     → IfSome (input_told fault) (λ f. IsBoardOf texts (Err f)) → NoBoard texts (unput_of fault)
 no_board texts (input.Memory e) is = tt
@@ -134,14 +133,13 @@ judged_denoted judging text_of P texts board denoted old new (Err unput.Write) c
     record { rose = cut.rose; value = (board, cut.value); found = (denoted, cut.found); bytes = cut.bytes; takes = cut.takes }
 judged_denoted judging text_of P texts board denoted old new (Err unput.Memory) same = same
 
--- If a relation holds for two values, it also holds for two values that are equal to them.
 pub of_two : {A B : Type 0} (P : A → B → Type 0) {a b : A} {c d : B} → a ≡ b → c ≡ d → P a c → P b d
 of_two {A} {B} P {a} {b} {c} {d} first second is = subst (λ (x : A). P x d) first (subst (P a) second is)
 
 pub of_three : {A B C : Type 0} (P : A → B → C → Type 0) {a b : A} {c d : B} {e f : C} → a ≡ b → c ≡ d → e ≡ f → P a c e → P b d f
 of_three {A} {B} {C} P {a} {b} {c} {d} {e} {f} first second third is = subst (λ (x : A). P x d f) first (of_two (P a) second third is)
 
--- if the command finds a fault in the log and writes nothing, the reason that `unput_log` makes from the fault is an answer
+-- a command that finds a fault in a log, writes nothing and returns the reason `unput_log rows fault` gives a correct answer
 pub log_wrong : {A : Type 0} (IsFound : Result A TextFault → Type 0) (text_of : A → Text)
     (IsWorth : Text → Type 0) (shown : Shown) (rows : ℕ) (said : LogAnswer) (fault : LogFault)
     → IfSome (log_told fault) (λ f. said ≡ Err f)
@@ -153,7 +151,7 @@ log_wrong IsFound text_of IsWorth shown rows said (log.Length line) fails is = (
 log_wrong IsFound text_of IsWorth shown rows said (log.Extra line) fails is = (is (log.Extra line) fails, refl)
 log_wrong IsFound text_of IsWorth shown rows said (log.Missing found) fails is = (is (log.Missing found) fails, refl)
 
--- if the command finds a fault in the batch and writes nothing, the reason that `unput_batch` makes from the fault is an answer
+-- a command that finds a fault in a batch, writes nothing and returns the reason `unput_batch rows fault` gives a correct answer
 pub batch_wrong : {A : Type 0} (IsFound : Result A TextFault → Type 0) (text_of : A → Text)
     (IsWorth : Text → Type 0) (shown : Shown) (rows : ℕ) (said : BatchAnswer) (fault : BatchFault)
     → IfSome (batch_told fault) (λ f. said ≡ Err f)

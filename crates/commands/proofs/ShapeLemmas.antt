@@ -18,8 +18,8 @@ none_kept : (q : ℕ → Bool) (numbers : List ℕ) → ((n : ℕ) → q n ≡ f
 none_kept q [] none = refl
 none_kept q (n ∷ numbers) none = ap (λ (b : Bool). cond b (n ∷ filter q numbers) (filter q numbers)) (none n) ∙ none_kept q numbers none
 
--- if, for each item `x` at place `i`, `q` is true of `k + i` if and only if `p` is true of `x`, then `q` is true of as many of the numbers
--- from `k` on as `p` of items
+-- Test `q` on the numbers from `k` on agrees with test `p` on the items of a list. So `q` accepts as many of these numbers as `p` accepts
+-- items.
 module _ {X : Type 0} (p : X → Bool) (q : ℕ → Bool) where
   kept_count : (k : ℕ) (xs : List X) → ((i : ℕ) (x : X) → slice_get xs i ≡ Some x → q (k + i) ≡ p x)
       → length (filter q (range_with_len k (length xs))) ≡ count_by p xs
@@ -76,7 +76,6 @@ module _ (board : RawBoard)
           ∙ sym (counted (walk_row_scans board walk))
           ∙ ap (λ (o : Option (List Ctl)). count_by is_compared (board_scans board (scans_by board o))) (sym is)
 
-  -- if a log has as many rows and bits as a log of the walking test, it has the shape of the test
   pub walk_shaped : (log : List (List Bool)) → HasSize (walk_rows board) (data_bits board) log → HasShape board (walk_row_list board) log
   walk_shaped log size = record { rows = size.rows ∙ walk_rows_compared; bits = size.bits }
 

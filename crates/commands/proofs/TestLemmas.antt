@@ -20,13 +20,11 @@ use Rattle.commands.specs.LogRead.{test_rows}
 same_scan : (x y : Scan) → ◌≡◌ {A = Option Scan} (Some x) (Some y) → x ≡ y
 same_scan x y e = cc
 
--- if `k` is below the number of scans, there is a scan with the number `k`
 pub scan_at : (scans : List Scan) (k : ℕ) → k < length scans → (scan : Scan) × (slice_get scans k ≡ Some scan)
 scan_at [] k within = absurd (omega (arith, within))
 scan_at (s ∷ scans) zero within = (s, refl)
 scan_at (s ∷ scans) (suc k) within = scan_at scans k (omega (arith, within))
 
--- the text of the first `k + 1` scans is the text of the first `k` scans, followed by the text of scan `k`
 texts_more : (scans : List Scan) (k : ℕ) (scan : Scan) → slice_get scans k ≡ Some scan
     → scan_texts (take (suc k) scans) ≡ scan_texts (take k scans) ++ scan_text scan
 texts_more [] k scan at = absurd cc
@@ -35,7 +33,6 @@ texts_more (s ∷ scans) (suc k) scan at =
     ap (λ t. scan_text s ++ t) (texts_more scans k scan at)
     ∙ sym (append_assoc (scan_text s) (scan_texts (take k scans)) (scan_text scan))
 
--- the text of all scans is the text of the scans before scan `k`, followed by scan `k` and by the scans after scan `k`
 texts_split : (scans : List Scan) (k : ℕ) (scan : Scan) → slice_get scans k ≡ Some scan
     → scan_texts scans
     ≡ scan_texts (take k scans) ++ (scan_text scan ++ scan_texts (drop (suc k) scans))
@@ -47,7 +44,6 @@ texts_split (s ∷ scans) (suc k) scan at =
     (append_assoc (scan_text s) (scan_texts (take k scans))
     (scan_text scan ++ scan_texts (drop (suc k) scans)))
 
--- if `k` is below the plan's count of scans, it is below the number of scans of the test
 pub below_count : (board : RawBoard) (passes : List (List Ctl)) (width k count : ℕ)
     → AreTestScans board passes width (test_scans board passes width)
     → count ≡ 3 + length passes * suc width → k < count → k < length (test_scans board passes width)
@@ -58,7 +54,6 @@ pub past_count : (board : RawBoard) (passes : List (List Ctl)) (width k count : 
     → count ≡ 3 + length passes * suc width → count ≤ k → length (test_scans board passes width) ≤ k
 past_count board passes width k count placed is past = subst (λ n. n ≤ k) (is ∙ sym placed.count) past
 
--- like `below_count`, but for any list of scans whose length is `count`
 pub below : (scans : List Scan) (k count : ℕ) → count ≡ length scans → k < count → k < length scans
 below scans k count is within = subst (λ n. k < n) is within
 

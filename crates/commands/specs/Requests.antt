@@ -14,7 +14,7 @@ ChainTexts = ChainFiles Text (List Text)
 abbrev pub BoardTexts : Type 0
 BoardTexts = BoardFiles Text (List Text)
 
--- a command with the text of each file in place of its name
+-- a command that holds the text of each of its files instead of the file's name
 abbrev pub Request : Type 0
 Request = CommandOf Text (List Text)
 

@@ -56,7 +56,8 @@ pub record IsCoverText (texts : BoardTexts) (text : Text) : Type 0 where
   pub lists : IsCoverList board text
 
 -- The text is a test of the board that these texts denote, and the text has a meaning. The test passes if nothing is faulty. After its
--- reset, the test is quiet under every fault set. The test fails under every nonempty fault set that is observable.
+-- reset, it is quiet (`IsQuiet`) under every fault set, so it never enables two boundary-scan drivers on one net. The test fails under
+-- every nonempty fault set that is observable.
 pub record IsSvfText (texts : BoardTexts) (text : Text) : Type 0 where
   pub board : RawBoard
   pub denoted : Denotes texts.chain texts.nets texts.bsdl board
@@ -69,8 +70,8 @@ pub record IsIdentTestText (texts : ChainTexts) (text : Text) : Type 0 where
   pub bounds : ArePatterns patterns
   pub tests : IsIdentTest patterns text
 
--- The text has a meaning and may be applied to the board that these texts denote. The test passes if nothing is faulty. After its reset,
--- the test is quiet under every fault set.
+-- The text has a meaning and may be applied to the board that these texts denote. The test passes if nothing is faulty. After its reset, it
+-- is quiet (`IsQuiet`) under every fault set, so it never enables two boundary-scan drivers on one net.
 pub record IsWalkText (texts : BoardTexts) (text : Text) : Type 0 where
   pub board : RawBoard
   pub denoted : Denotes texts.chain texts.nets texts.bsdl board
@@ -142,7 +143,8 @@ abbrev pub OfDenoted : (RawBoard → Text → Type 0) → BoardTexts → Text �
 OfDenoted P texts text = (board : RawBoard) × Denotes texts.chain texts.nets texts.bsdl board × P board text
 
 -- The property of the text that is written for a request. The text of a test tests the chain, the parts or the board. The text of a walking
--- test is harmless. What a list, a diagnosis or groups state is true. A summary has no stated property.
+-- test is harmless (`IsHarmless`). The statements in a list, a diagnosis or the text of `groups` are true. A summary has no stated
+-- property.
 abbrev pub IsWorthFor : Request → Text → Type 0
 IsWorthFor (Chain texts) text = IsChainTestText texts text
 IsWorthFor (Ident texts) text = IsIdentTestText texts text

@@ -122,7 +122,7 @@ fn board_counts(alloc: Global, board: &Board) -> Result<Counts, AllocError>
     counts
 }
 
-// Like `board_counts`, but takes the board's classes and the pins of its nets.
+// Like `board_counts`, but also takes the board's classes and the pins of its nets.
 fn classed_counts(
     alloc: Global,
     board: &Board,
@@ -141,7 +141,7 @@ fn classed_counts(
     counts
 }
 
-// Like `board_counts`, but takes the board's test and classes.
+// Like `board_counts`, but takes the board's test instead of the board, and the board's classes.
 fn planned_counts(
     alloc: Global,
     test: &BoardTest<'_>,

@@ -150,7 +150,7 @@ impl TestRows {
     }
 }
 
-/// Writes the test of a plan.
+/// Writes the test of a plan. `made` must have been made for the board of the test.
 pub fn write_test<K: Sink>(
     test: &BoardPlan<'_>,
     made: &mut TestRows,
@@ -186,8 +186,8 @@ fn write_scans<K: Sink>(
     write_tail(out)
 }
 
-// Writes scan `k` of a plan. If `held` has a shape, the rows must hold scan `k - 1`, and the shape must be the shape of this scan.
-// Afterwards the rows hold scan `k`, and `held` has its shape.
+// Writes scan `k` of a plan. `k` must be below the number of scans. If `held` has a shape, `k` must not be 0, the rows must hold scan `k -
+// 1`, and the shape must be the shape of scan `k - 1`. Afterwards the rows hold scan `k`, and `held` has the shape of scan `k`.
 fn write_scan_at<K: Sink>(
     test: &BoardPlan<'_>,
     k: u64,
@@ -216,8 +216,8 @@ fn write_scan_at<K: Sink>(
     write_scan(shape, &scan.tdi, &scan.tdo, &scan.mask, line, out)
 }
 
-// Fills the rows with scan `k` of a plan and returns its shape. If `before` has a shape, the rows must hold scan `k - 1`, and the shape
-// must be the shape of this scan. In that case the call is faster.
+// Fills the rows with scan `k` of a plan and returns its shape. `k` must be below the number of scans. If `before` has a shape, `k` must
+// not be 0, the rows must hold scan `k - 1`, and the shape must be the shape of scan `k - 1`. In that case the call is faster.
 fn fill_at(
     test: &BoardPlan<'_>,
     k: u64,

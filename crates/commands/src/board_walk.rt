@@ -34,7 +34,7 @@ use tap_defs::board_law::{rows_compared, statements_compared};
 use walk_test::Walk;
 use walk_test::law::{scans_counted, walk_harmless};
 
-/// A board and its walking test. Contracts see the pair of the two.
+/// A board and its walking test. The model is this pair.
 #[derive(Drop)]
 pub struct Walked {
     pub board: Board,
@@ -124,7 +124,7 @@ fn walk_of(alloc: Global, board: &Board) -> Result<Walk, AllocError>
     walk
 }
 
-// Like `walk_of`, but takes the board's classes and the pins of its nets.
+// Like `walk_of`, but also takes the board's classes and the pins of its nets.
 fn walk_by(
     alloc: Global,
     board: &Board,
@@ -155,7 +155,7 @@ pub fn walk<K: Sink>(alloc: Global, texts: &BoardTexts, out: &mut K) -> Result<(
     }
 }
 
-// Writes the walking test, which is already made, of a board.
+// Writes the text of a walking test that is already made.
 fn put_walk<K: Sink>(alloc: Global, walked: &Walked, out: &mut K) -> Result<(), Unput>
     ensures { PutsText (board_walk_text walked.now.board) (K.shown out.old) (K.shown out.new)
         result }
@@ -164,7 +164,7 @@ fn put_walk<K: Sink>(alloc: Global, walked: &Walked, out: &mut K) -> Result<(), 
     answer_by(write_walk(walked, &mut rows, out))
 }
 
-// States that the text of the walking test is harmless. Does nothing.
+// States that the text of the walking test is harmless (`IsHarmless`). Does nothing.
 fn is_harmless(board: &Board)
     ensures { IsHarmless board.now (board_walk_text board.now) }
 {
@@ -172,7 +172,7 @@ fn is_harmless(board: &Board)
     walk_harmless();
 }
 
-// Like `put_walk`, but takes the rows in which the scans are made.
+// Like `put_walk`, but also takes the rows in which the scans are made.
 #[tactic(auto, unfolding(tap_defs::specs::chain::Text::svf_text))]
 fn write_walk<K: Sink>(walked: &Walked, rows: &mut Rows, out: &mut K) -> Result<(), PutFault>
     requires { EachStoredHasRoom (IsRoom walked.now.board) rows.old.scan }
@@ -185,7 +185,7 @@ fn write_walk<K: Sink>(walked: &Walked, rows: &mut Rows, out: &mut K) -> Result<
     write_tail(out)
 }
 
-// Writes scan `k` of a walking test.
+// Writes scan `k` of a walking test. `k` must be below the number of scans.
 fn write_walk_scan<K: Sink>(
     walked: &Walked,
     k: u64,

@@ -66,7 +66,7 @@ fn instruction_bits(lengths: &[u32]) -> u32
     lengths.iter().sum()
 }
 
-// Like `put_test`, but takes the rows in which the scans are made.
+// Like `put_test`, but also takes the rows in which the scans are made.
 #[tactic(auto, unfolding(tap_defs::specs::chain::Text::svf_text))]
 fn write_test<K: Sink>(lengths: &[u32], rows: &mut Rows, out: &mut K) -> Result<(), PutFault>
     requires lengths { AreLengths lengths.now }

@@ -48,7 +48,7 @@ fn put_test<K: Sink>(alloc: Global, patterns: &[Option<Code>], out: &mut K) -> R
     answer_by(write_test(patterns, &mut rows, out))
 }
 
-// Like `put_test`, but takes the rows in which the scan is made.
+// Like `put_test`, but also takes the rows in which the scan is made.
 fn write_test<K: Sink>(
     patterns: &[Option<Code>],
     rows: &mut Rows,
@@ -70,8 +70,7 @@ fn write_test<K: Sink>(
     )
 }
 
-// States that the text of the test tests the codes, and that the scan of the codes has at most 255 times 32 bits. Does
-// nothing.
+// States that the text of the test tests the codes, and that the scan of the codes has at most 255 times 32 bits. Does nothing.
 fn tests_codes(patterns: &[Option<Code>])
     requires { ArePatterns patterns.now }
     ensures tests { IsIdentTest patterns.now (ident_text patterns.now) }

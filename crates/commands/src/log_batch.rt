@@ -82,7 +82,7 @@ fn put_batch<R: Threads + Sync, K: Sink, G: Gate>(
     }
 }
 
-// Diagnoses the logs in these blocks of a batch, and writes the diagnoses.
+// Diagnoses the logs in these blocks of a batch, and writes the diagnoses. The logs must have the board's test's numbers of rows and bits.
 fn put_blocks<R: Threads + Sync, K: Sink, G: Gate>(
     rt: &R,
     alloc: Global,
@@ -106,7 +106,8 @@ fn put_blocks<R: Threads + Sync, K: Sink, G: Gate>(
     put_verdicts(alloc, board, blocks, &verdicts, out)
 }
 
-// Writes the verdicts on the blocks.
+// Writes the verdicts on the blocks. There must be one verdict for each block, and the faults of the verdicts must name nets and pins of
+// the board.
 fn put_verdicts<K: Sink>(
     alloc: Global,
     board: &Board,

@@ -139,7 +139,7 @@ fn found_in<R: Threads + Sync, G: Gate>(
     Ok(Found { pass, faults })
 }
 
-// Writes the diagnosis `found` of a log.
+// Writes the diagnosis `found` of a log. Its faults must name nets and pins of the board.
 fn put_found<K: Sink>(alloc: Global, board: &Board, found: &Found, out: &mut K) -> Result<(), Unput>
     requires { All (IsFaultOnBoard board.now) found.now.faults.items }
     ensures { PutsText (diag_text board.now found.now.pass found.now.faults.items) (K.shown out.old)

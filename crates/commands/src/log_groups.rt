@@ -62,8 +62,7 @@ fn lent(found: &Option<Vec<Group>>) -> Option<&[Group]>
     }
 }
 
-// Reads a log of the board's walking test and writes the groups that explain the log. The log reuses the memory of the
-// text.
+// Reads a log of the board's walking test and writes the groups that explain the log. The log reuses the memory of the text.
 fn put_groups<K: Sink>(
     alloc: Global,
     walked: &Walked,
@@ -80,7 +79,7 @@ fn put_groups<K: Sink>(
     }
 }
 
-// Finds the groups that explain a log of the board's walking test, and writes them.
+// Finds the groups that explain a log of the board's walking test, and writes them. The log must have the test's numbers of rows and bits.
 fn put_grouped<K: Sink>(alloc: Global, walked: &Walked, log: &Log, out: &mut K) -> Result<(), Unput>
     requires size { HasSize (walk_rows walked.now.board) (data_bits walked.now.board) log.now }
     ensures { (text : Text) → walk_log text walked.now.board ≡ Ok log.now

@@ -23,7 +23,7 @@ use scan_planner::Plan;
 use std::alloc::{AllocError, Global};
 use std::marker::Model;
 
-/// A board and the plan of its test. The plan has the passes of the board. Contracts see the pair of the two.
+/// A board and the plan of its test. The plan has the passes of the board. The model is this pair.
 #[derive(Drop)]
 pub struct Planned {
     pub board: Board,

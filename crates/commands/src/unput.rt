@@ -64,8 +64,7 @@ pub fn unput_by_batch(rows: u64, fault: BatchFault) -> Unput
     }
 }
 
-/// Returns the result of a command, given the result of writing its output. If the sink failed, the result is
-/// `Unput::Write`.
+/// Returns the result of a command, given the result of writing its output. If the sink failed, the result is `Unput::Write`.
 pub fn answer_by(put: Result<(), PutFault>) -> Result<(), Unput>
     ensures { (text : Text) (old new : Shown) → Puts old new text put
         → PutsText text old new result }
