@@ -65,8 +65,6 @@ first_long wanted text rest long =
     ap (λ (b : Bool). if b then Some (TooLong wanted) else and_text text rest)
     (is_long wanted.limit (length text) (nat_lt wanted.limit (length text)) refl long)
 
--- if a text within its limit is read before the texts `others`, the reading of all these texts is the text in front of the reading of
--- `others`
 reads_more : (held : Held) (wanted : Wanted) (text : Text) (others : List Wanted)
     (reading : Reading) → IsText held wanted.name text → length text ≤ wanted.limit
     → IsRead held others reading → IsRead held (wanted ∷ others) (behind (text ∷ []) reading)
@@ -104,7 +102,6 @@ continued held wanted front continues =
     let whole = subst (λ texts. IsRead held (wanted ++ []) (Read texts)) (append-nil front) (continues [] (Read []) (reads_none held)) in
     subst (λ texts. IsRead held texts (Read front)) (append-nil wanted) whole
 
--- the names of two joined lists of texts are the names of the first list, followed by the names of the second
 names_both : (first rest : List Wanted) → names_in (first ++ rest) ≡ names_in first ++ names_in rest
 names_both first rest = map-append (λ (text : Wanted). text.name) first rest
 
@@ -147,7 +144,7 @@ module _ (held held' : Held) (before now : Text → ℕ) (asked asked' : List Te
   pub no_memory : Reads IsOne (wanted_view last ∷ []) held held' before now asked asked' (Err unread.Memory)
   no_memory = record { same = same; later = later; told = record { first = last.name.now ∷ []; others = []; are = refl; asks = asks } }
 
--- If the texts `first` were read up to `last` only, so were the texts `first` followed by `rest`.
+-- A failed read of `first` is also a failed read of `first` followed by `rest`.
 module _ (first rest : List Wanted) (held : Held) (asked asked' : List Text) where
   up_to_here_too : (last : Wanted) → IsReadUpTo held first last asked asked' → IsReadUpTo held (first ++ rest) last asked asked'
   up_to_here_too last there = record {
@@ -282,7 +279,6 @@ read_then {Then = Then} {first = first} {rest = rest} {held = held} {before = be
       };
     }
 
--- if two single texts were read in turn, the list of the two texts was read
 pub read_two : {first second : Wanted} {held mid held' : Held} {before between now : Text → ℕ}
     {asked asked_mid asked' : List Text} {one other : Text}
     → Reads IsOne (first ∷ []) held mid before between asked asked_mid (Ok one)
@@ -362,7 +358,6 @@ module _ (names : List (Bor Text)) (k : ℕ) (d : Bor Text) (name : Text) (withi
       (λ (wanted : List Wanted). Reads AreAll wanted held held' before now asked asked'
       (Err lost)) (sym (one_more names k d name within is)) (lost_then AreAll so_far one))
 
--- the bytes of `all`, which is `texts` followed by `last`, are the bytes of `texts` followed by the bytes of `last`
 pub items_more : (texts all : List (Vec ℕ Global)) (last : Vec ℕ Global) (text : Text)
     → all ≡ texts ++ last ∷ [] → last.items ≡ text
     → map (λ t. t.items) all ≡ map (λ t. t.items) texts ++ text ∷ []

@@ -1,4 +1,5 @@
--- Lemmas about runs of a command. For each way in which a run ends, they say what the run did. They also say that a run is complete.
+-- Lemmas about runs of a command. For each way in which a run ends, they say what the run did. They also say that each run satisfies
+-- `IsComplete`.
 use Rattle.std.proofs.Common.{◌≡◌, ℕ, zero, suc, Bool, true, false, nat_lt, length, List, [], ◌∷◌, Option, Some, None, Result, Ok, Err, refl, sym, ap, ◌∙◌, subst, inl, inr}
 use Rattle.std.specs.Prelude.{IfSome, map, take, ◌++◌, if◌then◌else◌}
 use Rattle.std.proofs.lemmas.List.{append-nil}
@@ -51,7 +52,6 @@ pub took_or_cut : {T E : Type 0} {old new : Shown} {line : Text} (r : Result T E
 took_or_cut (Ok x) puts = inl puts.whole
 took_or_cut (Err e) puts = inr (puts.cause, puts.cut)
 
--- the names of the wanted BSDL texts with these names are these names
 pub names_wanted : (names : List Text) → names_in (map text_called names) ≡ names
 names_wanted [] = refl
 names_wanted (name ∷ names) = ap (λ (l : List Text). name ∷ l) (names_wanted names)
@@ -155,7 +155,6 @@ pub none_asked_for : (command : Option Command) (asked : List Text) → IfSome c
 none_asked_for None asked = tt
 none_asked_for (Some command) asked = none_asked command asked
 
--- if `first` is followed by `others`, the first `length first` names are `first`
 first_of : (first others : List Text) → take (length first) (first ++ others) ≡ first
 first_of [] others = refl
 first_of (name ∷ first) others = ap (λ (l : List Text). name ∷ l) (first_of first others)
@@ -248,7 +247,6 @@ run_unput command held before now asked asked' request unput.Memory out out' not
     (memory_run command held before now asked asked' out notes notes'
     (asked_all command asked asked' read.asks) noted)
 
--- if the count of faults of `last` rose, the count rose for some name in a list that contains `last`
 rose_in : (before now : Text → ℕ) (front : List Wanted) (last : Wanted) (after : List Wanted)
     → Rose (before last.name) (now last.name)
     → SomeRose before now (names_in (front ++ last ∷ after))
@@ -317,7 +315,6 @@ same_outcome held command reading other a b one known is gives_a gives_b =
     (subst (λ r. IsOutcome command r a)
     (one_reading held (wanted_of command) reading other known is) gives_a) gives_b
 
--- an outcome that is a text is different from an outcome that is a line
 apart : {text line : Text} → ◌≡◌ {A = Result Text Text} (Ok text) (Err line) → ⊥
 apart e = cc e
 
@@ -390,8 +387,8 @@ one_said text_of line_of IsFound a b one says_a says_b =
     let y = found_of text_of line_of IsFound b says_b in
     x.2 ∙ ap (said text_of line_of) (one x.0 y.0 x.1 y.1) ∙ sym y.2
 
--- The lemmas below take laws as arguments. The first laws say that the text of a device and the texts of a chain, of its codes and of a
--- board have at most one answer.
+-- The text of a device, and the texts of a chain, of its identification codes and of a board, have at most one answer each. Other crates
+-- prove these laws, so lemmas take them as arguments.
 abbrev OneDevice : Type 0
 OneDevice = (text : Text) → AtMostOne (IsDeviceText text)
 
@@ -432,7 +429,6 @@ same_cause f g e = cc
 
 module _ (boards : OneBoard) (rules : KeepRules) {L E A : Type 0} (judging : Judging L E A)
     (one : FindsOne judging) (text chain nets : Text) (texts : List Text) where
-  -- if texts denote a board, they have no fault
   no_input : (board : RawBoard) (fault : TextFault) → Denotes chain nets texts board → IsInputFault chain nets texts fault → ⊥
   no_input board (Input f) denoted is = not_both board f (boards chain nets texts (Ok board) (Err f) denoted is)
   no_input board (Log rows f) denoted is = is
@@ -448,7 +444,6 @@ module _ (boards : OneBoard) (rules : KeepRules) {L E A : Type 0} (judging : Jud
   one_denoted : (a b : RawBoard) → Denotes chain nets texts a → Denotes chain nets texts b → a ≡ b
   one_denoted a b is_a is_b = same_board a b (boards chain nets texts (Ok a) (Ok b) is_a is_b)
 
-  -- if a text can be read for the board, it has no fault
   no_wrong : (board : RawBoard) (contents : L) (fault : TextFault)
       → judging.read text board ≡ Ok contents → IsWrong judging text board fault → ⊥
   no_wrong board contents fault holds wrong = not_both contents wrong.cause (sym holds ∙ wrong.fails)
@@ -575,7 +570,6 @@ module _ (devices : OneDevice) (chains : OneChain) (idents : OneIdents) (boards 
       (subst (λ (r : Request). IsGiven (roles_of command) r a)
       (same_request (sym made_a ∙ made_b)) is_a) is_b
 
--- if the read of `wanted` gives the texts `found`, `found` has as many texts as `wanted`
 count_read : (held : Text → Option Text) (wanted : List Wanted) (found : List Text)
     → reading_of held wanted ≡ Some (Read found) → length found ≡ length wanted
 count_read held [] [] reads = refl
@@ -636,8 +630,8 @@ some_said : {A F : Type 0} (text_of : A → Text) (line_of : F → Text) (IsFoun
     → HasAnswer IsFound → HasOutcome (IsSaid text_of line_of IsFound)
 some_said text_of line_of IsFound some = says text_of line_of IsFound some.0 some.1
 
--- The lemmas below take laws as arguments. The first laws say that the text of a device and the texts of a chain, of its codes and of a
--- board have an answer.
+-- The text of a device, and the texts of a chain, of its identification codes and of a board, have an answer each. Other crates prove these
+-- laws, so lemmas take them as arguments.
 abbrev SomeDevice : Type 0
 SomeDevice = (text : Text) → HasAnswer (IsDeviceText text)
 

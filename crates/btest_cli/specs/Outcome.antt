@@ -1,4 +1,5 @@
--- The outcome of a command for its texts, and the effect that a run has at each status.
+-- The outcome of a command for its texts, and the effect that a run has at each status. The outcome is the text to write, or the line for
+-- the first fault.
 use Rattle.std.specs.Prelude.{◌≡◌, ◌⊎◌, ℕ, List, [], ◌∷◌, take, Some, Result, Ok, Err, map, String, string_bytes, IfSome}
 use Rattle.std.specs.declared.alloc.Global.{Global}
 use Rattle.bt_base.specs.Counts.{Rose}
@@ -54,7 +55,7 @@ IsGiven names (Batch workers log board) outcome =
     IsSaid verdicts_text (text_fault_line names)
     (IsJudgedOf judging_each (record { log = log; board = board })) outcome
 
--- `outcome` is the outcome of a command for the texts that were read. A text that is too long is the first fault.
+-- `outcome` is the outcome of a command for the texts that were read. If a text is too long, the outcome is the line for this text.
 abbrev pub IsOutcome : Command → Reading → Result Text Text → Type 0
 IsOutcome command (Read texts) outcome =
     (request : Request) × (request_of command texts ≡ Some request)
@@ -90,8 +91,8 @@ pub record IsCutShort (held : Held) (command : Command) (asked asked' : List Tex
 abbrev pub TookOrCut : Shown → Shown → Text → Type 0
 TookOrCut old new line = Takes old new line ⊎ (Rose old.faults new.faults × ((bytes : ℕ) × Takes old new (take bytes line)))
 
--- The texts that the run read have a first fault, and the notes took the line for this fault. The run asked for no text after a text that
--- is too long.
+-- The texts that the run read have a first fault, and the notes took the line for this fault, whole or cut short (`TookOrCut`). The run
+-- asked for no text after a text that is too long.
 pub record IsRefused (held : Held) (command : Command) (asked asked' : List Text) (old new : Shown) : Type 0 where
   pub reading : Reading
   pub read : IsRead held (wanted_of command) reading
@@ -100,13 +101,13 @@ pub record IsRefused (held : Held) (command : Command) (asked asked' : List Text
   pub gives : IsOutcome command reading (Err line)
   pub noted : TookOrCut old new line
 
--- for some name in the list, the count of faults rose
+-- the count of faults rose for some name in the list
 abbrev pub SomeRose : (Text → ℕ) → (Text → ℕ) → List Text → Type 0
 SomeRose before now [] = ⊥
 SomeRose before now (name ∷ names) = Rose (before name) (now name) ⊎ SomeRose before now names
 
 -- The run read the texts before `last`, the count of faults of `last` rose, and the run asked for no later text. The notes took the line
--- for `last`.
+-- for `last`, whole or cut short (`TookOrCut`).
 pub record IsNotRead (held : Held) (command : Command) (before now : Text → ℕ) (asked asked' : List Text) (old new : Shown) : Type 0 where
   pub last : Wanted
   pub asks : IsReadUpTo held (wanted_of command) last asked asked'

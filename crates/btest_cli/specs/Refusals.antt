@@ -15,7 +15,7 @@ text_fault_line names (OfBatch rows fault) = batch_fault_line names.log rows fau
 abbrev pub board_roles : Text → BoardNames → Names
 board_roles log names = record { log = log; chain = names.chain; nets = names.nets; bsdl = names.bsdl }
 
--- the names of the texts of a command, each name in the place for its kind of text
+-- the names of the texts of a command, each name in the field for its kind of text
 abbrev pub roles_of : Command → Names
 roles_of (Chain names) = record { log = []; chain = names.chain; nets = []; bsdl = names.bsdl }
 roles_of (Device bsdl) = record { log = []; chain = []; nets = []; bsdl = bsdl ∷ [] }

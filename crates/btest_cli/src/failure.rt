@@ -24,7 +24,7 @@ pub enum Unread<'a> {
     Memory,
 }
 
-/// Returns the status for texts that were not read.
+/// Returns the status of a run that did not read all its texts.
 pub fn unread_status(failure: &Unread) -> Status
     ensures { result ≡ unread_status failure.now }
 {
@@ -35,7 +35,7 @@ pub fn unread_status(failure: &Unread) -> Status
     }
 }
 
-/// Returns the status for a text that was not written whole.
+/// Returns the status of a run that did not write its whole text.
 pub fn unput_status(failure: &Unput) -> Status
     ensures { result ≡ unput_status failure.now }
 {
@@ -46,7 +46,7 @@ pub fn unput_status(failure: &Unput) -> Status
     }
 }
 
-/// Writes the line for texts that were not read.
+/// Writes the line that says why the texts were not all read.
 pub fn put_unread<N: Sink>(failure: &Unread, notes: &mut N) -> Result<(), PutFault>
     ensures { Puts (N.shown notes.old) (N.shown notes.new) (unread_line failure.now) result }
 {
@@ -57,7 +57,7 @@ pub fn put_unread<N: Sink>(failure: &Unread, notes: &mut N) -> Result<(), PutFau
     }
 }
 
-/// Writes the line for a text that was not written whole. `names` has the names of the texts that the command read.
+/// Writes the line that says why a text was not written whole. `names` has the names of the texts that the command read.
 pub fn put_unput<N: Sink>(names: Names, failure: &Unput, notes: &mut N) -> Result<(), PutFault>
     ensures { Puts (N.shown notes.old) (N.shown notes.new)
         (unput_line (names_view names.entry) failure.now) result }

@@ -1,5 +1,4 @@
-//! The top call of the program. It reads texts, writes the text or a refusal, and returns the
-//! status.
+//! The top call of the program. It reads texts, writes the text or a refusal, and returns the status.
 #![tactic(auto)]
 
 mod failure;

@@ -1,4 +1,4 @@
-// Reads the texts of a command, each as the kind of text that the command needs there.
+// Reads the texts that a command names.
 ghost use Rattle.std.specs.Prelude.{◌∷◌, map};
 ghost use Rattle.command_line.specs.Words.{board_names, chain_names};
 ghost use Rattle.btest_cli.specs.Texts.{wanted_log, text_called, wanted_of};
@@ -13,7 +13,7 @@ use command_line::{
 use commands::{BoardTexts, ChainTexts, LogTexts, Request};
 use std::alloc::Global;
 
-/// Reads the texts of a command, in the order of their names.
+/// Reads the texts of a command, in the order of their names. Stops at the first text that is not read or is too long.
 pub fn read_request<'a, S: Store>(
     alloc: Global,
     command: &NamedCommand<'a>,

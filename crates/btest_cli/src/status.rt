@@ -9,7 +9,7 @@ pub enum Status {
     Done,
     /// The texts have a fault.
     Refused,
-    /// The words are no command.
+    /// The words do not form a command.
     Usage,
     /// A text was not read.
     ReadFault,

@@ -10,13 +10,13 @@ use command_line::{BsdlNames, FileName};
 use commands::{ShortText, ShortTexts};
 use std::alloc::Global;
 
-// The most bytes of a chain file, a net file or a BSDL text.
+// The largest number of bytes of a chain file, a net file or a BSDL text.
 const MOST_BYTES: u32 = 4_194_304;
 
-// The most bytes of a response log, or of a batch of logs in one text.
+// The largest number of bytes of a response log, or of a batch of logs in one text.
 const MOST_LOG_BYTES: u32 = 67_108_864;
 
-/// A text to read: its name, and the most bytes that it may have.
+/// A text to read: its name, and the largest number of bytes that it may have.
 #[derive(Clone, Copy)]
 pub struct Wanted<'a> {
     pub name: &'a str,
@@ -43,7 +43,7 @@ fn log_called<'a>(name: &'a str) -> Wanted<'a>
     }
 }
 
-// Reads a text.
+// Reads a text of at most `wanted.limit` bytes.
 fn read_wanted<'a, S: Store>(
     alloc: Global,
     wanted: Wanted<'a>,
@@ -61,7 +61,7 @@ fn read_wanted<'a, S: Store>(
     }
 }
 
-// Reads the chain file, net file or BSDL text with this name.
+// Reads the chain file, net file or BSDL text with this name, of at most `MOST_BYTES` bytes.
 fn read_text<'a, S: Store>(
     alloc: Global,
     name: &'a str,
@@ -73,7 +73,7 @@ fn read_text<'a, S: Store>(
     read_wanted(alloc, text_called(name), store)
 }
 
-/// Reads a chain file, a net file or a BSDL text.
+/// Reads a chain file, a net file or a BSDL text of at most `MOST_BYTES` bytes.
 pub fn read_file<'a, S: Store>(
     alloc: Global,
     name: &FileName<'a>,
@@ -85,7 +85,7 @@ pub fn read_file<'a, S: Store>(
     read_text(alloc, name.as_str(), store)
 }
 
-/// Reads a response log or a batch of logs.
+/// Reads a response log or a batch of logs of at most `MOST_LOG_BYTES` bytes.
 pub fn read_log<'a, S: Store>(
     alloc: Global,
     name: &FileName<'a>,
@@ -97,7 +97,7 @@ pub fn read_log<'a, S: Store>(
     read_wanted(alloc, log_called(name.as_str()), store)
 }
 
-/// Reads BSDL texts in order. Stops at the first text that is not read or is too long.
+/// Reads BSDL texts in order, each of at most `MOST_BYTES` bytes. Stops at the first text that is not read or is too long.
 pub fn read_texts<'a, S: Store>(
     alloc: Global,
     names: &BsdlNames<'a>,

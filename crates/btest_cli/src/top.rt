@@ -134,7 +134,7 @@ fn run_command<R: Threads + Sync, S: Store, K: Sink, N: Sink, G: Gate>(
     }
 }
 
-// Returns the names of the texts of a command, each name in the place for its kind of text.
+// Returns the names of the texts of a command, each name in the field for its kind of text.
 fn roles_of<'n, 'a>(command: &'n NamedCommand<'a>) -> Names<'n, 'a>
     ensures { names_view result ≡ roles_of command.now }
 {
@@ -178,7 +178,8 @@ fn board_roles<'n, 'a>(log: &'a str, names: &'n BoardNames<'a>) -> Names<'n, 'a>
     }
 }
 
-// Writes the outcome of a request. The clause holds whatever names the texts have.
+// Writes the text that a request gives, or returns the reason why it was not written whole. The contract holds whatever names the texts
+// have.
 fn answer<R: Threads + Sync, K: Sink, G: Gate>(
     rt: &R,
     alloc: Global,

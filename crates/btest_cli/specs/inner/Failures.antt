@@ -16,7 +16,7 @@ use Rattle.refusal_lines.specs.Refusals.{Names, input_fault_line, log_fault_line
 use Rattle.btest_cli.specs.Outcome.{IsGiven}
 use Rattle.commands.specs.Worth.{IsWorthFor}
 
--- a text to read, as the definitions see it
+-- the text to read as a `Wanted`, which has the name itself instead of a borrowed name
 abbrev pub wanted_view : Lent → Wanted
 wanted_view wanted = record { name = wanted.name.now; limit = wanted.limit }
 

@@ -9,13 +9,13 @@ use Rattle.btest_cli.specs.declared.failure.Unread.TheVariants as unread
 use Rattle.btest_cli.specs.Texts.{Held, Wanted, Reading, Read, TooLong, Asks, IsRead, IsReadUpTo, names_in}
 use Rattle.btest_cli.specs.inner.Failures.{wanted_view}
 
--- the reading with the texts `front` in front of its texts, or the same text that is too long
+-- the reading with the texts `front` in front of its texts; a reading with a text that is too long stays the same
 abbrev pub behind : List Text → Reading → Reading
 behind front (Read texts) = Read (front ++ texts)
 behind front (TooLong wanted) = TooLong wanted
 
--- The texts of `wanted` were read, and they are `front`. If `reading` is a reading of the texts after them, `reading` with `front` in front
--- is a reading of all.
+-- `front` has the texts that were read for `wanted`. If `reading` is a reading of the texts `rest`, then `reading` with `front` in front is
+-- a reading of `wanted` and `rest`.
 abbrev pub Continues : Held → List Wanted → List Text → Type 0
 Continues held wanted front =
     (rest : List Wanted) (reading : Reading) → IsRead held rest reading
@@ -36,8 +36,8 @@ pub record IsReadOf {A : Type 0} (Of : A → List Text → Type 0) (wanted : Lis
   pub continues : Continues held wanted texts
   pub asks : Asks asked asked' (names_in wanted)
 
--- The reason says why the texts were not all read, and the run asked the store for the names up to there. If a text is too long, this is
--- the reason whatever texts come after `wanted`.
+-- The reason says why not all texts were read. The run asked the store for the names up to the text that is too long or was not read, or
+-- for some first names if memory ran out. If a text is too long, it is the reason whatever texts come after `wanted`.
 abbrev pub IsUnread : List Wanted → Held → (Text → ℕ) → (Text → ℕ) → List Text → List Text → Unread → Type 0
 IsUnread wanted held before now asked asked' (unread.TooLong last) =
     ((rest : List Wanted) → IsRead held (wanted ++ rest) (TooLong (wanted_view last)))
