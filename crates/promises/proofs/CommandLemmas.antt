@@ -37,7 +37,6 @@ use Rattle.promises.proofs.GiveLemmas.{not_both, same_ok}
 use Rattle.promises.proofs.RunLemmas.{gives_text, prints}
 
 module _ (run : Run) (is : IsRun run) (one : SayOne) where
-  -- if the files denote two boards, the boards are equal
   same_board : (chain nets : Text) (bsdl : List Text) (board other : RawBoard)
       → Denotes chain nets bsdl board → Denotes chain nets bsdl other → other ≡ board
   same_board chain nets bsdl board other denotes also = same_ok (one.board chain nets bsdl (Ok other) (Ok board) also denotes)

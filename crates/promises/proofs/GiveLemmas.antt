@@ -106,7 +106,6 @@ each_back : (board : RawBoard) (blocks : List Block) (found : List Block × List
     × (verdicts_text (board, found) ≡ batch_text board blocks verdicts)
 each_back board blocks found is = (found.1, is.1, ap (λ (l : List Block). batch_text board l found.1) is.0)
 
--- if the texts give an outcome, it is the outcome in the sense of `IsOutcome`
 pub gives_is : (command : Command) (texts : List Text) (outcome : Result Text Text)
     → GivesOutcome command texts outcome → IsOutcome command (Read texts) outcome
 gives_is (Chain names) [] outcome gives = absurd gives
@@ -192,7 +191,6 @@ gives_is (Batch workers log names) (rows ∷ chain ∷ nets ∷ bsdl) outcome gi
       each_back rows chain nets bsdl outcome gives,
 )
 
--- if an outcome is the outcome in the sense of `IsOutcome`, the texts give it
 pub is_gives : (command : Command) (texts : List Text) (outcome : Result Text Text)
     → IsOutcome command (Read texts) outcome → GivesOutcome command texts outcome
 is_gives command texts outcome (asked, is, given) =

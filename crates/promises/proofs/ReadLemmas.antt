@@ -22,7 +22,6 @@ files_are (Diagnose workers log names) = refl
 files_are (Groups log names) = refl
 files_are (Batch workers log names) = refl
 
--- if a file's text is within the limit, the reading is this text, followed by the reading of the other files
 then_rest : (file : Wanted) (text : Text) (rest : Option Reading) → length text ≤ file.limit
     → read_first file (Some text) rest ≡ and_text text rest
 then_rest file text rest short =
@@ -71,7 +70,6 @@ reads_long (Some held) [] file after texts text each is long = long_of held [] f
 reads_long (Some held) (first ∷ before) file after texts text each is long =
     long_of held (first ∷ before) file after texts text each is long
 
--- if reading the files gives texts, these are the texts that the store holds for the files
 pub holds_read : (held : Text → Option Text) (files : List Wanted) (texts : List Text)
     → reading_of held files ≡ Some (Read texts) → HoldsEach (Some held) files texts
 holds_read held [] [] e = tt
@@ -118,7 +116,6 @@ pub read_holds : (held : Held) → Tells held → (files : List Wanted) (texts :
 read_holds None (of_name, tells) files texts read = absurd cc
 read_holds (Some held) tells files texts read = holds_read held files texts read
 
--- if the first file is within its limit, the first file that is too long among the others is also the first one among all files
 after_first : (held : Text → Option Text) (first : Wanted) (text : Text) (files : List Wanted)
     (file : Wanted) → held first.name ≡ Some text → length text ≤ first.limit
     → IsTooLong (Some held) files file → IsTooLong (Some held) (first ∷ files) file
@@ -178,7 +175,8 @@ pub read_long : (held : Held) → Tells held → (files : List Wanted) (file : W
 read_long None (of_name, tells) files file read = absurd cc
 read_long (Some held) tells files file read = long_held held files file read
 
--- if the files before each of two places have texts within their limits, and the same too long file is at both, the places are the same
+-- Two splits of a list at the same file are equal, if this file is too long and all files before it in either split are within their
+-- limits.
 same_cut : (held : Text → Option Text) (before others after behind : List Wanted) (file : Wanted)
     (texts found : List Text) (text : Text) → held file.name ≡ Some text → file.limit < length text
     → HoldsEach (Some held) before texts → HoldsEach (Some held) others found

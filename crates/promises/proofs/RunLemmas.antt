@@ -37,7 +37,6 @@ nothing_put run same = same_some (ap (λ (shown : Shown). shown.taken) same)
 nothing_noted : (run : Run) → notes_of run.new ≡ notes_of run.old → run.new.notes ≡ run.old.notes
 nothing_noted run same = same_some (ap (λ (shown : Shown). shown.taken) same)
 
--- a run cannot have two different statuses
 pub apart : {s : Status} (a b : Status) → s ≡ a → s ≡ b → (a ≡ b → ⊥) → ⊥
 apart a b one other differ = differ (sym one ∙ other)
 

@@ -67,7 +67,7 @@ board_files = codes "c" ∷ codes "n" ∷ codes "b" ∷ []
 abbrev log_files : List Text
 log_files = codes "g" ∷ board_files
 
--- the command `diagnose` with one worker; `batch` below is like it
+-- the command `diagnose` with one worker
 abbrev diagnose : Command
 diagnose = Diagnose 1 (codes "g") board_names
 

@@ -59,7 +59,7 @@ svf = Svf (record { chain = codes "c"; nets = codes "n"; bsdl = codes "b" ∷ []
 abbrev b_asked : List Text
 b_asked = codes "b" ∷ []
 
--- a store that holds no file, and of which this is known
+-- a store that is known to hold no file
 abbrev empty : Held
 empty = Some (λ name. None)
 
@@ -87,7 +87,6 @@ none_noted : (words : List Text) (held : Held) (status : Status) (asked : List T
 none_noted words held status asked out line some (inl is) = apart [] line refl some is
 none_noted words held status asked out line some (inr (rose, cut)) = calm rose
 
--- a status that differs from two statuses is neither of them
 neither : (status one other : Status) → (status ≡ one → ⊥) → (status ≡ other → ⊥) → (status ≡ one) ⊎ (status ≡ other) → ⊥
 neither status one other first second (inl is) = first is
 neither status one other first second (inr is) = second is
@@ -211,7 +210,7 @@ usage_that_read tells =
     let count : 1 ≡ 0 = ap (λ (unread : Text → ℕ). unread (codes "b")) (tells.1 nothing).2 in
     absurd (omega (arith, count))
 
--- a run before which the store is known to hold no file, and after which it is not known what the store holds
+-- The store is known to hold no file before this run. After the run it is not known what the store holds.
 abbrev forgotten : Run
 forgotten = let run = run_of [] empty Usage [] [] usage_line in record run { new = record run.new { held = None } }
 

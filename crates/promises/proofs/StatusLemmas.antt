@@ -19,7 +19,6 @@ use Rattle.promises.proofs.ReadLemmas.{Tells, files_are, long_cut, read_holds, r
 use Rattle.promises.proofs.GiveLemmas.{gives_is, is_gives}
 use Rattle.promises.proofs.RunLemmas.{cut_here, done_here, ends_refused, here, known, none_rose, not_cut, not_done, noted, nothing_put, out_taken, refused_here, texts_are}
 
--- if the status is neither Done nor WriteFault, the output took nothing
 untouched : (run : Run) → IsRun run → (status : Status) → run.status ≡ status → status ≢ Done → status ≢ WriteFault → PutsNothing run
 untouched run is status e not_done not_cut = nothing_put run (is.untouched (λ d. not_done (sym e ∙ d)) (λ w. not_cut (sym e ∙ w)))
 
@@ -91,7 +90,6 @@ tells_long run is one command file asks long = (
         (sym wanted ∙ asked.are) in
         (subst (λ (l : List Wanted). AskedInTurn run (map (λ f. f.name) l ++ file.name ∷ [])) cut asked.asked, subst (λ (t : Text). Notes run t) line_is (noted run told.line told.noted))
 
--- if the status is neither Usage nor NoMemory, the words ask for a command
 some_asked : (run : Run) → IsRun run → (status : Status) → run.status ≡ status → status ≢ Usage
     → status ≢ NoMemory → (command : Command) × HasWordsOf run command
 some_asked run is status e not_usage not_memory = by_command (command_of run.words) refl

@@ -74,7 +74,6 @@ then_board front (chain ∷ nets ∷ names) = by_count (nat_le (length names) 25
 abbrev AreOf : List Text → Option Command → Type 0
 AreOf words command = IfSome command (λ c. AreWords c words)
 
--- if the words give names, they are the words of the command with these names
 of_names : {A : Type 0} (command : A → Command) (P : A → Type 0) (words : List Text)
     → ((names : A) → P names → AreWords (command names) words) → (names : Option A) → IfSome names P
     → AreOf words (option_map command names)
@@ -200,7 +199,6 @@ asks_for run command is = by_plain (list_all is_plain run.words) refl is
     by_plain true plain is = (subst (AreOf run.words) is (parsed_words run.words), plain)
     by_plain false plain is = absurd cc
 
--- if the grammar makes no command of the words, they ask for no command
 pub none_asked : (run : Run) → command_of run.words ≡ None → AsksNothing run
 none_asked run none command asks =
     let bad : ◌≡◌ {A = Option Command} None (Some command) = sym none ∙ command_is run command asks in

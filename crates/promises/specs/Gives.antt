@@ -27,11 +27,11 @@ use Rattle.commands.specs.LogRead.{test_blocks, test_log, test_rows, walk_log, w
 use Rattle.command_line.specs.declared.command.Command.TheVariants.{Chain, Ident, Device, Cover, Svf, Walk, Make, Diagnose, Groups, Batch}
 use Rattle.command_line.specs.Words.{Text, ChainNames, BoardNames, Command}
 
--- the names of the files of a chain, each name in the place for its kind of file
+-- the names of the files of a chain, each name in the field for its kind of file
 abbrev pub of_chain : ChainNames → Names
 of_chain names = record { log = []; chain = names.chain; nets = []; bsdl = names.bsdl }
 
--- the names of the files of a board and of its logs, each name in the place for its kind of file
+-- the names of the files of a board and of its logs, each name in the field for its kind of file
 abbrev pub of_board : Text → BoardNames → Names
 of_board log names = record { log = log; chain = names.chain; nets = names.nets; bsdl = names.bsdl }
 

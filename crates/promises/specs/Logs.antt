@@ -1,4 +1,5 @@
--- The log or batch that the lines of a text hold, and the promise that texts are read as their lines say.
+-- What it means that the lines of a text hold a log or a batch, and the promise that the program reads a log or a batch exactly from such
+-- texts.
 use Rattle.std.specs.Prelude.{◌≡◌, ◌↔◌, Bool, true, List, [], ◌∷◌, map, Some, Ok, codes}
 use Rattle.board_defs.specs.declared.board.RawBoard.{RawBoard}
 use Rattle.board_defs.specs.Pins.{data_bits}

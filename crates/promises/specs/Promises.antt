@@ -85,8 +85,8 @@ ListsCover run =
     → RunsOn run (Cover names) (chain ∷ nets ∷ bsdl) → Denotes chain nets bsdl board →
     PrintsText run (Cover names) (λ text. (text ≡ cover_text board) × IsBoard board × IsCoverList board text)
 
--- `svf`: the text has a meaning. Run on the board from any state, it is quiet after its reset under every fault set, passes without faults,
--- and fails under every nonempty set of observable faults.
+-- `svf`: the text has a meaning. Run on the board from any state, it is quiet (`IsQuiet`) after its reset under every fault set, so it
+-- never enables two boundary-scan drivers on one net. It passes without faults, and fails under every nonempty set of observable faults.
 abbrev pub TestsBoard : Run → Type 0
 TestsBoard run =
     (names : BoardNames) (chain nets : Text) (bsdl : List Text) (board : RawBoard)
@@ -96,8 +96,8 @@ TestsBoard run =
     IsQuiet board clocks × PassOnBoard board no_faults clocks
     × ((faults : FaultSet) → IsObservable board faults → IsNonempty faults → FailOnBoard board faults clocks))
 
--- `walk`: the text has a meaning. Run on the board from any state, it is quiet after its reset under every fault set, and passes without
--- faults.
+-- `walk`: the text has a meaning. Run on the board from any state, it is quiet (`IsQuiet`) after its reset under every fault set, so it
+-- never enables two boundary-scan drivers on one net. It passes without faults.
 abbrev pub WalksBoard : Run → Type 0
 WalksBoard run =
     (names : BoardNames) (chain nets : Text) (bsdl : List Text) (board : RawBoard)
@@ -189,7 +189,8 @@ RestsOnWalkLog run =
     RunsOn run (Groups name names) (log ∷ chain ∷ nets ∷ bsdl) → (run.status ≡ Done) ⊎ (run.status ≡ WriteFault) →
     (board : RawBoard) × Denotes chain nets bsdl board × (rows : List (List Bool)) × HoldsLog board (walk_row_list board) log rows
 
--- Unless memory ran out, the status is Usage if and only if the words ask for no command. For such words, the store stays unchanged.
+-- Unless memory ran out, the status is Usage if and only if the words ask for no command. For such words, the store stays unchanged. At
+-- Usage, the output takes nothing, and the notes take the usage line.
 abbrev pub TellsUsage : Run → Type 0
 TellsUsage run =
     (run.status ≡ Usage → AsksNothing run × PutsNothing run × Notes run usage_line)

@@ -25,7 +25,7 @@ pub struct Desk {
 }
 
 impl Desk {
-    /// Runs a command line.
+    /// Runs a command line with this store, this output and these notes.
     pub(crate) fn run<R: Threads + Sync, G: Gate>(
         &mut self,
         rt: &R,
@@ -45,7 +45,7 @@ impl Desk {
     }
 }
 
-/// Runs a command line with any store.
+/// Runs a command line with any store, and with an output and notes in memory.
 pub(crate) fn run_on<R: Threads + Sync, S: Store, G: Gate>(
     rt: &R,
     alloc: Global,
@@ -69,7 +69,7 @@ pub(crate) fn run_on<R: Threads + Sync, S: Store, G: Gate>(
     run(rt, alloc, words, store, out, notes, gate)
 }
 
-/// A text is read as a log or a batch if and only if its lines hold a log or a batch.
+/// States that a text is read as a log or a batch if and only if its lines hold a log or a batch. Does nothing.
 pub fn lines_are_read()
     ensures { LinesAreRead }
 {

@@ -9,7 +9,8 @@ use std::alloc::Global;
 use std::thread::Threads;
 
 impl Desk {
-    /// `chain` distinguishes a chain with the parts of its files from a chain with another number of parts.
+    /// Runs a command line. Promise: `chain` distinguishes a chain with the parts of its files from every chain that has another number of
+    /// parts and no more instruction bits.
     pub fn chain<R: Threads + Sync, G: Gate>(
         &mut self,
         rt: &R,
@@ -21,7 +22,7 @@ impl Desk {
         self.run(rt, words, gate)
     }
 
-    /// `ident` tests whether each part's code fits the pattern of the part.
+    /// Runs a command line. Promise: `ident` tests whether each part's code fits the pattern of the part.
     pub fn ident<R: Threads + Sync, G: Gate>(
         &mut self,
         rt: &R,
@@ -33,7 +34,7 @@ impl Desk {
         self.run(rt, words, gate)
     }
 
-    /// `device` lists the device that its file describes.
+    /// Runs a command line. Promise: `device` lists the device that its file describes.
     pub fn device<R: Threads + Sync, G: Gate>(
         &mut self,
         rt: &R,
@@ -45,8 +46,8 @@ impl Desk {
         self.run(rt, words, gate)
     }
 
-    /// `cover` lists each net that no safe setting covers, with the reason. For the covered nets it lists each driver,
-    /// receiver and pair of nets that no safe setting tests.
+    /// Runs a command line. Promise: `cover` lists each net that no safe setting covers, with the reason. For the covered nets it lists
+    /// each driver, receiver and pair of nets that no safe setting tests.
     pub fn cover<R: Threads + Sync, G: Gate>(
         &mut self,
         rt: &R,
@@ -58,21 +59,22 @@ impl Desk {
         self.run(rt, words, gate)
     }
 
-    /// `svf` tests the board that its files denote.
+    /// Runs a command line. Promise: `svf` tests the board that its files denote.
     pub fn svf<R: Threads + Sync, G: Gate>(&mut self, rt: &R, words: &[String], gate: &G) -> Status
         ensures { TestsBoard (desk_run words.now self.old self.new result) }
     {
         self.run(rt, words, gate)
     }
 
-    /// `walk` gives a test that may be applied to the board.
+    /// Runs a command line. Promise: `walk` prints a test that is harmless to the board.
     pub fn walk<R: Threads + Sync, G: Gate>(&mut self, rt: &R, words: &[String], gate: &G) -> Status
         ensures { WalksBoard (desk_run words.now self.old self.new result) }
     {
         self.run(rt, words, gate)
     }
 
-    /// `diagnose` lists exactly the single faults that explain a log, and prints only if the file holds a log.
+    /// Runs a command line. Promise: `diagnose` lists exactly the single faults that explain a log, and prints only if the file holds a
+    /// log.
     pub fn diagnose<R: Threads + Sync, G: Gate>(
         &mut self,
         rt: &R,
@@ -86,8 +88,8 @@ impl Desk {
         self.run(rt, words, gate)
     }
 
-    /// `batch` writes the title and the diagnosis of each block, and prints only if the file holds such blocks. The diagnosis of
-    /// a block depends on the block's log alone.
+    /// Runs a command line. Promise: `batch` writes the title and the diagnosis of each block, and prints only if the file holds such
+    /// blocks. The diagnosis of a block depends on the block's log alone.
     pub fn batch<R: Threads + Sync, G: Gate>(
         &mut self,
         rt: &R,
@@ -101,8 +103,8 @@ impl Desk {
         self.run(rt, words, gate)
     }
 
-    /// `groups` names the set of groups that explains a log, or says that no set does, and prints only if the file holds a
-    /// log.
+    /// Runs a command line. Promise: `groups` names the set of groups that explains a log, or says that no set does, and prints only if the
+    /// file holds a log.
     pub fn groups<R: Threads + Sync, G: Gate>(
         &mut self,
         rt: &R,
@@ -116,7 +118,8 @@ impl Desk {
         self.run(rt, words, gate)
     }
 
-    /// Unless memory ran out, the status is Usage if and only if the words ask for no command. For such words no file is read.
+    /// Runs a command line. Promise: unless memory ran out, the status is Usage if and only if the words ask for no command. For such words
+    /// no file is read.
     pub fn usage<R: Threads + Sync, G: Gate>(
         &mut self,
         rt: &R,
@@ -128,9 +131,9 @@ impl Desk {
         self.run(rt, words, gate)
     }
 
-    /// A text is printed only if the words ask for a command whose files give this text. The status is Refused only if the files give the
-    /// line that is written. Nothing is said here about the lines of other statuses. Files that were read or that the store holds give a
-    /// text or a line.
+    /// Runs a command line. Promise: a text is printed only if the words ask for a command whose files give this text. The status is
+    /// Refused only if the files give the line that is written. Nothing is said here about the lines of other statuses. Files that were
+    /// read or that the store holds give a text or a line.
     pub fn outcome<R: Threads + Sync, G: Gate>(
         &mut self,
         rt: &R,
@@ -143,8 +146,8 @@ impl Desk {
         self.run(rt, words, gate)
     }
 
-    /// Unless a read of a file failed or memory ran out, the status is Refused if and only if the files have a fault or a file is too long.
-    /// The notes then take the line for the first fault.
+    /// Runs a command line. Promise: unless a read of a file failed or memory ran out, the status is Refused if and only if the files have
+    /// a fault or a file is too long. The notes then take the line for the first fault.
     pub fn refused<R: Threads + Sync, G: Gate>(
         &mut self,
         rt: &R,
@@ -157,7 +160,8 @@ impl Desk {
         self.run(rt, words, gate)
     }
 
-    /// If the status is WriteFault, a write of the output failed, and the output took only some first bytes of the text.
+    /// Runs a command line. Promise: if the status is WriteFault, a write of the output failed, and the output took only some first bytes
+    /// of the text.
     pub fn write_fault<R: Threads + Sync, G: Gate>(
         &mut self,
         rt: &R,
@@ -169,7 +173,7 @@ impl Desk {
         self.run(rt, words, gate)
     }
 
-    /// If the status is NoMemory, nothing was written to the output.
+    /// Runs a command line. Promise: if the status is NoMemory, nothing was written to the output.
     pub fn no_memory<R: Threads + Sync, G: Gate>(
         &mut self,
         rt: &R,
@@ -182,7 +186,7 @@ impl Desk {
     }
 }
 
-/// `make` writes the summary of a generated board. This is true of every store.
+/// Runs a command line with any store. Promise: `make` writes the summary of a generated board.
 pub fn make<R: Threads + Sync, S: Store, G: Gate>(
     rt: &R,
     alloc: Global,
@@ -201,7 +205,7 @@ pub fn make<R: Threads + Sync, S: Store, G: Gate>(
     run_on(rt, alloc, words, store, out, notes, gate)
 }
 
-/// If the status is ReadFault, a read of a file failed and the notes name this file. This is true of every store.
+/// Runs a command line with any store. Promise: if the status is ReadFault, a read of a file failed and the notes name this file.
 pub fn read_fault<R: Threads + Sync, S: Store, G: Gate>(
     rt: &R,
     alloc: Global,

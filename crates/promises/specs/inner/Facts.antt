@@ -15,11 +15,11 @@ use Rattle.btest_cli.specs.Outcome.{AsksSome, IsComplete, IsCutShort, IsDone, Is
 use Rattle.btest_cli.specs.declared.status.Status.TheVariants.{Done, Refused, Usage, ReadFault, WriteFault, NoMemory}
 use Rattle.promises.specs.Runs.{Ends, Run}
 
--- the output at these ends, as contracts see a sink
+-- the state of the output, in the form that the contracts of a sink use
 abbrev pub out_of : Ends → Shown
 out_of ends = record { taken = Some ends.out; amount = None; faults = ends.unwritten }
 
--- the notes at these ends, as contracts see a sink
+-- the state of the notes, in the form that the contracts of a sink use
 abbrev pub notes_of : Ends → Shown
 notes_of ends = record { taken = Some ends.notes; amount = None; faults = ends.unnoted }
 
@@ -57,8 +57,8 @@ pub record IsRun (run : Run) : Type 0 where
       (λ c. IsComplete run.old.held c (SomeRose run.old.unread run.new.unread (names_in_command c))
       (Rose run.old.unwritten run.new.unwritten) run.status)
 
--- The text of a device, and the texts of a chain, of its identification codes and of a board, have at most one answer. A reading has at
--- most one outcome, and a known reading has one.
+-- The text of a device, and the texts of a chain, of its identification codes and of a board, have at most one answer each. A reading has
+-- at most one outcome, and a known reading has one.
 pub record SayOne : Type 0 where
   pub device : (text : Text) (a b : Result RawDevice InputFault) → IsDeviceText text a → IsDeviceText text b → a ≡ b
   pub chain : (chain : Text) (texts : List Text) (a b : Result (List ℕ) InputFault)
