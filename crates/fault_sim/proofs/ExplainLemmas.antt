@@ -491,7 +491,7 @@ module _ (board : RawBoard) (plan : PlanTables) (lists : FaultLists)
   suspects_below (m ∷ n ∷ []) can i h = pair_below lists starts (covered_place plan m) (covered_place plan n) can.0 can.1 i h
   suspects_below (m ∷ n ∷ o ∷ nets) can i h = absurd h
 
-  -- the tested pins from pin `from` on give two suspects for each pin of net n
+  -- each pin of net n among the tested pins from pin `from` on gives two suspects
   pins_counted : (n from count : ℕ) → from + count ≡ length lists.pins
       → length (flat_map (pin_suspects lists n) (range_with_len from count))
       ≡ 2 * count_by (λ (pin : PinRef). pin.net == n) (drop from lists.pins)

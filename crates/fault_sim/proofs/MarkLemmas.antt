@@ -199,7 +199,7 @@ module _ (board : RawBoard) (rules : IsBoard board) (plan : PlanTables) (p : IsP
       by_driver net is_net pass stands None e = tt
       by_driver net is_net pass stands (Some d) e = λ j j_less. cells_expected n unmarked x less net is_net pass stands d e j j_less
 
-  -- like `unmarked_within`, but n may also be a number that no net of the board has
+  -- like `unmarked_within`, but without the condition that net n is on the board
   pub unmarked_shows : (n : ℕ) → are_marked marks (plan_readers plan n) ≡ false → ShowsOn board plan None log n
   unmarked_shows n unmarked = by_side (cases_lt n (length board.nets))
     where

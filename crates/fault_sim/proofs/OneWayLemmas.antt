@@ -1,4 +1,4 @@
--- Lemmas about the order of single faults and about the places of suspects.
+-- Lemmas which say that no two single faults come before each other, and that each suspect is a place of the board.
 use Rattle.std.proofs.Common.{◌≡◌, inl, inr, ℕ, ◌<◌, Bool, true, false, sym, subst, arith}
 use Rattle.std.specs.Prelude.{All}
 use Rattle.board_defs.specs.declared.board.PinRef.{PinRef}

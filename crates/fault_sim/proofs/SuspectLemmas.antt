@@ -136,8 +136,7 @@ module _ (lists : FaultLists) (starts : ArePairStarts (length lists.nets) lists.
   abbrev nets : ℕ
   nets = length lists.nets
 
-  -- if a is less than b, the number of pair a and b is at least the number of pairs before net a, and less than the number of pairs before
-  -- net a + 1
+  -- if a is less than b, the index of the pair of nets a and b is at least `pairs_before nets a` and less than `pairs_before nets (a + 1)`
   module _ (a b : ℕ) (order : a < b) (within : b < nets) where
     number_is : pair_number lists a b ≡ pairs_before nets a + (b - suc a)
     number_is = ap (λ (n : ℕ). n + (b - suc a)) (starts.each a (omega (arith, order, within)))
@@ -333,7 +332,6 @@ module _ (lists : FaultLists) (starts : ArePairStarts (length lists.nets) lists.
         (omega (arith, within, above)))
         (has_four (place_of k b) r i less (omega (arith, e))))))
 
-  -- the suspects of two nets that differ are in ascending order
   pub pair_order : (a b : ℕ) → InOrder Rises (pair_suspects lists a b)
   pair_order a b = four_order (first_short lists + 4 * pair_number lists a b)
 

@@ -149,7 +149,6 @@ module _ (board : RawBoard) (rules : IsBoard board) (plan : PlanTables) (p : IsP
             (sym (observing_here board rules plan p n net is_net x pass stands o.open_net d e)
             ∙ observing)
 
-    -- if `observes_in` is true, the pass observes the net
     pub observes_is : observes_in plan pass n ≡ true → ObservesNet board (holds pass) n
     observes_is e = by_driver (driver_in plan pass n) refl e
       where
@@ -158,7 +157,6 @@ module _ (board : RawBoard) (rules : IsBoard board) (plan : PlanTables) (p : IsP
         by_driver None q e = cc e
         by_driver (Some d) q e = (net, is_net, (d.place, observed_place d q e))
 
-    -- if the pass observes the net, `observes_in` is true
     pub is_observing : (place : ℕ) → ObservesBy board (holds pass) net place → observes_in plan pass n ≡ true
     is_observing place o =
         let d = driver_there place o in

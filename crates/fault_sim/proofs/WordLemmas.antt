@@ -50,7 +50,7 @@ chosen_bit false true false = refl
 chosen_bit false false true = refl
 chosen_bit false false false = refl
 
--- The formula for the common bit of two nets with an And short is right. `first` and `second` say whether each net is driven in the row,
+-- The formula for the common bit of two nets with an And short is correct. `first` and `second` say whether each net is driven in the row,
 -- and a and b are the bits to which the nets are driven.
 pub and_bits : (first second a b : Bool)
     → cond (first || second) (Some (cond first a true && cond second b true)) None

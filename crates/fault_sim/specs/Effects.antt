@@ -44,7 +44,7 @@ abbrev pub unless_off : Option Bool → Bool → Option Bool
 unless_off None bit = Some bit
 unless_off (Some off) bit = cond (is_same bit off) None (Some bit)
 
--- the bit that a net is driven to in row j, or `None` if the net is not driven in this row
+-- the bit to which a net is driven in row j, or `None` if the net is not driven in this row
 abbrev pub feed_bit : Option Feed → ℕ → Option Bool
 feed_bit None j = None
 feed_bit (Some feed) j = unless_off feed.off (source_bit feed.source j)

@@ -1,4 +1,4 @@
--- The places whose faults may explain a log.
+-- The suspects of a log: the places whose faults may explain it.
 use Rattle.std.specs.Prelude.{◌≡◌, ◌↔◌, ◌⊎◌, ℕ, ◌+◌, ◌-◌, ◌*◌, ◌<◌, ◌==◌, Bool, List, [], ◌∷◌, length, count_by, slice_get, Some, None, AllPairs, All, Contains}
 use Rattle.board_defs.specs.declared.board.RawBoard.{RawBoard}
 use Rattle.board_defs.specs.declared.fault.Single.{Single}

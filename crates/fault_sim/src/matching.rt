@@ -28,9 +28,10 @@ pub fn is_pass(board: &Board, plan: &Plan, log: &Log) -> bool
     LoggedTest::of(board, plan, log).is_pass()
 }
 
-/// Returns whether a single fault of the board explains a log. A fault explains a log if every run of the test with this fault alone gives
-/// the log's compared bits. The plan must be built from the board's passes. The log must have the plan's rows, each as long as a data scan.
-/// Checks the cells of the fault's own nets first, since they rule out most faults that do not explain the log.
+/// Returns whether `fault` explains a log. `fault` must be a single fault of the board. A fault explains a log if every run of the test
+/// with this fault alone gives the log's compared bits. The plan must be built from the board's passes. The log must have the plan's rows,
+/// each as long as a data scan. Checks the cells of the fault's own nets first, since they rule out most faults that do not explain the
+/// log.
 pub fn matches(board: &Board, plan: &Plan, fault: Single, log: &Log) -> bool
     requires plan { IsPlanOf board.now plan.now }
     requires passes { plan.now.passes ≡ passes_of board.now }
@@ -81,7 +82,8 @@ impl<'a> LoggedTest<'a> {
         self.shows_all(Some(fault))
     }
 
-    /// Like `matches`, but also takes the nets that differ in the log. With them, only the cells of the fault's own nets need a check.
+    /// Like `matches`, but also takes `nets`, which must be the nets that differ in the log. With them, only the cells of the fault's own
+    /// nets need a check.
     pub fn matches_by(&self, fault: Single, nets: &[u32]) -> bool
         requires fault { IsSingle self.now.test.board fault }
         requires differing { AreDiffering self.now.test.board self.now.test.plan self.now.log

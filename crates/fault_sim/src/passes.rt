@@ -17,7 +17,8 @@ use response_log::Log;
 use scan_planner::{PassOfPlan, Plan};
 use std::marker::Model;
 
-/// A pass of a plan, with its kept drivers. The model is the plan and the controls that the pass holds.
+/// A pass of a plan, with the drivers that a kept pass stores for it, if there is one. The model is the plan and the controls that the pass
+/// holds.
 #[derive(Drop)]
 pub struct PassDrivers<'a> {
     plan: &'a Plan,
@@ -77,7 +78,8 @@ impl<'a> PassDrivers<'a> {
     }
 }
 
-/// A pass of a board's test, with its kept drivers and kept rows. The model is the test and the number of the pass.
+/// A pass of a board's test, with the drivers and rows that a kept pass stores for it, if there is one. The model is the test and the
+/// number of the pass.
 #[derive(Drop)]
 pub struct TestPass<'a> {
     pub(crate) pass: PassOfPlan<'a>,

@@ -116,7 +116,7 @@ impl<'a> NetRows<'a> {
 
 impl<'a> LoggedPass<'a> {
     /// Returns the rows of the pass in which some compared cell of a net shows 1, and the rows in which some compared cell shows 0. Both
-    /// words are 0 if the pass enables no driver on the net.
+    /// words are 0 if the pass enables no driver on the net. Cells that read the enabled driver's pin are not counted.
     pub fn shown(&self, net: u32) -> ShownWords
         ensures { IsShownIn (net_in_pass self.now net) result }
     {

@@ -1,4 +1,4 @@
-// Finds the places whose faults may explain a log.
+// Finds the suspects of a log: the places whose faults may explain it.
 ghost use Rattle.std.specs.Prelude.{◌≡◌, ◌+◌, ◌-◌, ◌*◌, ◌<◌, ◌^◌, ◌++◌, suc, length, All, IfOk, OnOk, slice_get, Some};
 ghost use Rattle.std.specs.List.{flat_map, range_with_len};
 ghost use Rattle.board_defs.specs.Passes.{passes_of};

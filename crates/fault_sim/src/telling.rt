@@ -71,7 +71,8 @@ impl<'a> TellingNet<'a> {
         }
     }
 
-    /// Returns true only if the pass shows that a single fault of the board does not explain the log. Rules out only shorts of this net.
+    /// Returns whether this net rules out `fault`. A single fault of the board that is ruled out does not explain the log. Only shorts of
+    /// this net can be ruled out.
     pub fn rules_out(&self, fault: Single) -> bool
         ensures { result ≡ true → IsSingle self.now.pass.logged.test.board fault
             → Explains self.now.pass.logged.test.board fault self.now.pass.logged.log → ⊥ }

@@ -1,4 +1,5 @@
-// The nets that the passes of a plan observe, and the pins that these passes test.
+// The nets that the passes of a plan observe, and the pins that these passes test. A pass observes a net if it enables a driver on the net
+// and some compared cell reads another pin of the net.
 ghost use Rattle.std.specs.Prelude.{◌≡◌, ◌≤◌, ◌++◌, ◌∷◌, [], if◌then◌else◌, length, fold, IfOk, OnOk};
 ghost use Rattle.std.specs.List.{list_all};
 ghost use Rattle.board_defs.specs.Limits.{most_pins};

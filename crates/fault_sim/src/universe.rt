@@ -37,7 +37,7 @@ impl Model for Universe {
 }
 
 // Returns the items of `FaultLists::starts` for `nets` covered nets. Item `a` is the index of net `a`'s first pair with a later net, in the
-// list of all pairs. The last item is the count of all pairs.
+// list of all pairs. The last item is the count of all pairs. `nets` must be at most `most_nets`.
 fn pair_starts(alloc: Global, nets: u32) -> Result<Vec<u64>, AllocError>
     requires { nets ≤ most_nets }
     ensures { IfOk result (λ starts. ArePairStarts nets starts.items) }

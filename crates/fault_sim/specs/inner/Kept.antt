@@ -1,4 +1,4 @@
--- Look-ups in the kept passes of a test.
+-- Look-ups in the kept passes of a test. A kept pass stores rows and drivers of a pass, so that many logs can share them.
 use Rattle.std.specs.Prelude.{ℕ, Bool, true, false, cond, List, [], Option, Some, None, option_map, slice_get}
 use Rattle.fault_sim.specs.declared.feed.EnabledDriver.{EnabledDriver}
 use Rattle.fault_sim.specs.declared.feed.FedNet.{FedNet}
@@ -26,7 +26,7 @@ drivers_of_kept (Some pass) = pass.drivers
 abbrev pub kept_drivers : List KeptPass → ℕ → List (Option EnabledDriver)
 kept_drivers kept x = drivers_of_kept (slice_get kept x)
 
--- the feed that an enabled driver gives its net; `pull` is the value that the net is pulled to, if any
+-- the feed that an enabled driver gives its net; `pull` is the value to which the net is pulled, if any
 abbrev pub feed_of : Option Bool → EnabledDriver → Feed
 feed_of pull d = record { source = d.source; off = cond d.own pull None }
 

@@ -1,4 +1,5 @@
--- The places whose faults may explain a log.
+-- The suspects of a log, as a list that is computed from the nets that differ in the log. A suspect is a place whose fault may explain the
+-- log.
 use Rattle.std.specs.Prelude.{ℕ, suc, ◌+◌, ◌-◌, ◌*◌, ◌==◌, Bool, false, cond, List, [], ◌∷◌, ◌++◌, length, slice_index_or, slice_get, Option, Some, None}
 use Rattle.std.specs.List.{flat_map, range_with_len}
 use Rattle.board_defs.specs.declared.board.PinRef.{PinRef}

@@ -1,4 +1,5 @@
--- The nets that the passes of a plan observe, and the pins that these passes test.
+-- The nets that the passes of a plan observe, and the pins that these passes test. A pass observes a net if it enables a driver on the net
+-- and some compared cell reads another pin of the net.
 use Rattle.std.specs.Prelude.{ℕ, nat_lt, Bool, false, true, ◌&&◌, cond, List, [], ◌∷◌, length, map, filter, fold, replicate, slice_index_or, slice_get, slice_set, Option, Some, None}
 use Rattle.std.specs.List.{list_any, flat_map, range_with_len}
 use Rattle.board_defs.specs.declared.board.Ctl.{Ctl}

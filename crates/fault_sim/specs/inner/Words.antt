@@ -19,7 +19,7 @@ use Rattle.fault_sim.specs.inner.NetRows.{RowsOfNet}
 abbrev pub word_bit : ℕ → ℕ → Bool
 word_bit word j = bit_at word j == 1
 
--- the bit that a net is driven to in row j, or `None` if the net is not driven in this row
+-- the bit to which a net is driven in row j, or `None` if the net is not driven in this row
 abbrev pub driven_bit : FeedWords → ℕ → Option Bool
 driven_bit words j = if word_bit words.driven j then Some (word_bit words.value j) else None
 
