@@ -11,8 +11,8 @@ pub fn explaining_listed()
     board_law::singles_listed();
 }
 
-/// A log has at most one list of explaining faults in the order of the single faults. So neither the number of workers nor the gate
-/// can change the list.
+/// A log has at most one list of the single faults that explain it, in fault order. So neither the number of workers nor the gate can
+/// change the list.
 pub fn one_list()
     ensures { OneList }
 {}

@@ -39,9 +39,9 @@ fn is_ruled_out(search: Search<'_, '_>, fault: Single) -> bool
     }
 }
 
-// Returns whether some pass observes all nets of a candidate's fault and the fault explains the log. A fault at a place is a single fault
-// of the board if some pass observes all its nets. The telling net is tried first, since it rules out most candidates. The function takes
-// the entry of the gate so that no candidate is tried before the gate is entered.
+// Returns whether some pass observes all nets of a candidate's fault and the fault explains the log. If some pass observes all its nets,
+// the fault must be a single fault of the board. The telling net is tried first, since it rules out most candidates. The function takes the
+// entry of the gate so that no candidate is tried before the gate is entered.
 fn explains(search: Search<'_, '_>, fault: Single, _entered: &Entered) -> bool
     requires search { IsSearch search }
     requires fault { observes_fault search.logged.now.test.plan fault ≡ true
@@ -94,7 +94,7 @@ fn push_some(faults: &mut Vec<Single>, fault: Option<Single>) -> Result<(), Allo
     Ok(())
 }
 
-// Returns the faults of a piece's candidates that explain the log, in order.
+// Tries the candidates of a piece and returns the faults that explain the log, in order. The piece must be a range of the candidates.
 fn search_piece<G: Gate>(
     alloc: Global,
     search: Search<'_, '_>,
@@ -116,8 +116,8 @@ fn search_piece<G: Gate>(
     Ok(faults)
 }
 
-/// Returns the faults that explain the log, in order. The candidates are cut into as many pieces as there are workers. The pieces run side
-/// by side.
+/// Tries all candidates and returns the faults that explain the log, in order. The candidates are cut into as many pieces as there are
+/// workers. The pieces run side by side.
 pub fn search_pieces<R: Threads + Sync, G: Gate>(
     rt: &R,
     alloc: Global,
