@@ -26,13 +26,13 @@ abbrev pub id_of : List Word → Word
 id_of [] = []
 id_of (word ∷ words) = first_or_none words
 
--- True if there is exactly one word and it keeps the word rule. The rule is that a word has 1 to 255 bytes, each from 33 to 126.
+-- True if there is exactly one word and it satisfies the word rule: a word has 1 to 255 bytes, each from 33 to 126.
 abbrev pub is_id : List Word → Bool
 is_id [] = false
 is_id (id ∷ []) = is_word id
 is_id (id ∷ other ∷ words) = false
 
--- true if exactly one word follows the first word, and this second word keeps the word rule
+-- true if exactly one word follows the first word, and this second word satisfies the word rule
 abbrev pub names_board : List Word → Bool
 names_board [] = false
 names_board (word ∷ words) = is_id words

@@ -32,7 +32,7 @@ BlocksAreTheLines =
     (text : List ℕ) (rows len : ℕ) (blocks : List Block)
     → (blocks_of_text text rows len ≡ Ok blocks) ↔ AreBlocksOf rows len (row_lines text) blocks
 
--- each title among the lines consists of the word BOARD and an id that keeps the word rule
+-- each title among the lines consists of the word BOARD and an id that satisfies the word rule (`is_word`)
 abbrev pub AreRight : List NumberedLine → Type 0
 AreRight lines = All (λ line. is_wrong_title line ≡ false) lines
 

@@ -1,4 +1,4 @@
--- The verdicts on the blocks of a batch.
+-- The verdicts on the blocks of a batch. A verdict is the diagnosis of a block's log.
 use Rattle.std.specs.Prelude.{◌*◌, List, [], ◌∷◌, length, All}
 use Rattle.board_defs.specs.declared.board.RawBoard.{RawBoard}
 use Rattle.board_defs.specs.Pins.{data_bits}
@@ -8,7 +8,7 @@ use Rattle.fault_sim.specs.Diagnosis.{IsDiagnosis}
 use Rattle.batch_diag.specs.declared.block.Block.{Block}
 use Rattle.batch_diag.specs.declared.verdict.Verdict.{Verdict}
 
--- two lists have the same length, and R holds for the two items at each place
+-- two lists have the same length, and R holds for the two items at each index
 abbrev pub EachPair : {A B : Type 0} → (A → B → Type 0) → List A → List B → Type 0
 EachPair R [] [] = Unit {0}
 EachPair R [] (y ∷ ys) = ⊥

@@ -9,8 +9,8 @@ use thiserror::Error;
 
 /// The reason why a text is not a batch of logs, or lack of memory. Lines are counted in the whole text, from 1.
 ///
-/// The text of a fault is its line of refusal without the name of the file. If rows are missing, the text also lacks the number of rows
-/// that a log needs.
+/// The `Display` text of a fault is the line that the program prints for it, without the name of the file. If rows are missing, the printed
+/// line also has the number of rows that a log needs.
 #[derive(Debug, Drop, Error)]
 pub enum BatchFault {
     /// This line has words, but comes before the first title.

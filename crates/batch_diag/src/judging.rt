@@ -181,7 +181,7 @@ fn judge<R: Threads + Sync, G: Gate>(
     verdict_on(rt, alloc, &logged, batch.universe, &entered)
 }
 
-// Returns the verdicts on the blocks of a piece.
+// Returns the verdicts on the blocks of a piece, which must be a range of the batch's blocks.
 fn judge_piece<R: Threads + Sync, G: Gate>(
     rt: &R,
     alloc: Global,

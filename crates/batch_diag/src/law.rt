@@ -11,8 +11,8 @@ pub fn blocks_are_the_lines()
 {}
 
 /// A fault is reported for a text if and only if it is the first fault of the text. If the first line with words is not a title, this is
-/// the fault of that line. Otherwise it is the fault of the first wrong title. If no title is wrong, it is the fault of the first block
-/// whose lines are not a log.
+/// the fault of that line. Otherwise, if some title is wrong, it is the fault of the first wrong title. Otherwise it is the fault of the
+/// first block whose lines are not a log.
 pub fn fault_is_the_first()
     ensures { FaultIsTheFirst }
 {}

@@ -1,4 +1,4 @@
-//! Many logs of one test in one text, diagnosed side by side.
+//! Diagnoses many logs of one test side by side. The logs are in one text.
 //!
 //! A line whose first word is `BOARD` is a title. It begins a block, and its second word is the id of a board. The lines between
 //! a title and the next title are the log of that board. Each block is diagnosed as if it were alone.

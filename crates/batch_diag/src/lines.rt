@@ -76,7 +76,7 @@ fn id_of(line: &[u8]) -> &[u8]
     }
 }
 
-// Returns whether the line has exactly one word and this word keeps the word rule (see `is_word`).
+// Returns whether the line has exactly one word and this word satisfies the word rule (see `is_word`).
 fn is_id(line: &[u8]) -> bool
     ensures { result ≡ is_id (words_of line.now) }
 {
@@ -86,7 +86,7 @@ fn is_id(line: &[u8]) -> bool
     }
 }
 
-// Returns whether exactly one word follows the first word of the line and this second word keeps the word rule.
+// Returns whether exactly one word follows the first word of the line and this second word satisfies the word rule.
 fn names_board(line: &[u8]) -> bool
     ensures { result ≡ names_board (words_of line.now) }
 {

@@ -98,7 +98,7 @@ fn reading_of(alloc: Global, bytes: &[u8], rows: u64, len: u32) -> Result<Readin
     Ok(Reading { unread, rows, len })
 }
 
-// Returns block `i`, before its log is read. `i` must be below the number of blocks.
+// Returns block `i`, before its log is read. `i` must be below the number of blocks, and the blocks must satisfy `AreShortBlocks`.
 fn unread_at<'a>(reading: &Reading<'a>, i: usize) -> UnreadBlock<'a>
     requires short { AreShortBlocks reading.now.unread.items }
     requires block { i < length reading.now.unread.items }
@@ -108,7 +108,8 @@ fn unread_at<'a>(reading: &Reading<'a>, i: usize) -> UnreadBlock<'a>
     reading.unread[i]
 }
 
-// Returns the blocks `first..end`, or the fault of the first of these blocks whose lines are not a log.
+// Returns the blocks `first..end`, or the fault of the first of these blocks whose lines are not a log. `first..end` must be a range of the
+// blocks, which must satisfy `AreShortBlocks`.
 fn read_between(
     alloc: Global,
     reading: &Reading<'_>,
@@ -134,6 +135,7 @@ fn read_between(
 }
 
 // Reads all blocks in `pieces` pieces and returns them. Returns the fault of the first block whose lines are not a log, if there is one.
+// There must be at least one piece, and the blocks must satisfy `AreShortBlocks`.
 fn read_pieces<R: Threads + Sync>(
     rt: &R,
     alloc: Global,
@@ -155,7 +157,8 @@ fn read_pieces<R: Threads + Sync>(
     in_pieces(rt, alloc, count, pieces, &read)
 }
 
-// Reads the log of a block and returns the block. `board` is the number of the block, counted from 1.
+// Reads the log of a block and returns the block. `board` is the number of the block, counted from 1. The sum of the title's line number
+// and the length of the text below the title must be less than 2^32.
 fn read_block(
     alloc: Global,
     unread: UnreadBlock<'_>,
@@ -179,7 +182,8 @@ fn read_block(
     })
 }
 
-// Reads the log of block `board` from the text `own` below the block's title. `before` lines of the whole text come before `own`.
+// Reads the log of block `board` from the text `own` below the block's title. `before` lines of the whole text come before `own`. The sum
+// of `before` and the length of `own` must be less than 2^32.
 fn read_log(
     alloc: Global,
     own: &[u8],

@@ -1,4 +1,4 @@
--- The answer for all blocks of a batch or for a range of the blocks.
+-- The answer for all blocks of a batch or for a range of the blocks: their logs, or the first fault.
 use Rattle.std.specs.Prelude.{◌≡◌, ℕ, ◌+◌, ◌<◌, ◌^◌, List, length, map, Result, All, IfOk, MatchResult}
 use Rattle.answers.specs.Gives.{Gives}
 use Rattle.response_log.specs.LogRows.{HasSize}
