@@ -1,4 +1,4 @@
--- Lemmas which say that diagnoses and groups are right for their logs.
+-- Lemmas which say that diagnoses and groups are correct for their logs.
 use Rattle.std.proofs.Common.{◌≡◌, ◌↔◌, ℕ, Bool, List, [], ◌∷◌, Option, Some, None, IsTrue, ap, subst}
 use Rattle.board_defs.specs.declared.board.RawBoard.{RawBoard}
 use Rattle.board_defs.specs.declared.fault.Single.{Single}
@@ -15,7 +15,7 @@ use Rattle.walk_test.specs.Laws.{OneSet}
 use Rattle.commands.specs.Worth.{IsRight}
 
 module _ (listed : ExplainingListed) (unexplained : PassingUnexplained) (board : RawBoard) (rules : IsBoard board) where
-  -- if `pass` says whether the log passes, and `faults` has the faults that explain the log, the diagnosis is right
+  -- if `pass` says whether the log passes, and `faults` has the faults that explain the log, the diagnosis is correct (`IsRight`)
   pub is_right : (rows : List (List Bool)) (pass : Bool) (faults : List Single)
       → (IsTrue pass ↔ IsExpected board (svf_row_scans board) rows)
       → AreExplaining board rows faults → IsRight board rows pass faults
@@ -27,7 +27,7 @@ module _ (listed : ExplainingListed) (unexplained : PassingUnexplained) (board :
             board rows faults rules (passes.0 e) explaining;
       }
 
-  -- if the verdicts are the verdicts on the blocks, each verdict is right for its block's log
+  -- if the verdicts are the verdicts on the blocks, each verdict is correct for its block's log
   pub each_right : (blocks : List Block) (verdicts : List Verdict)
       → AreVerdicts board blocks verdicts
       → EachPair (λ block verdict. IsRight board block.log verdict.pass verdict.faults) blocks

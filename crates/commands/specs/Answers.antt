@@ -25,7 +25,7 @@ pub record IsCutBy {A F : Type 0} (IsFound : Result A F → Type 0) (text_of : A
   pub bytes : ℕ
   pub takes : Takes old new (take bytes (text_of value))
 
--- the command found a value, the sink took the value's text, and `IsWorth` holds for the text
+-- the command found a value, the sink took the value's text, and this text has the property `IsWorth`
 pub record IsPutBy {A F : Type 0} (IsFound : Result A F → Type 0) (text_of : A → Text)
     (IsWorth : Text → Type 0) (old new : Shown) : Type 0 where
   pub value : A

@@ -29,8 +29,8 @@ pub data TextFault : Type 0 where
   Log : ℕ → LogFault → TextFault
   Batch : ℕ → BatchFault → TextFault
 
--- A way to read and judge logs of a board. `row_count` is the number of rows of a log. `read` gives the contents of a text, or the cause
--- why the text cannot be read. `wrong` makes a fault from the number of rows and the cause. `Finds` says what the contents show.
+-- A way to read and judge logs of a board. `row_count` is the number of rows of a log. `read` gives the contents of a text, or the reason
+-- why the text cannot be read. `wrong` makes a fault from the number of rows and this reason. `Finds` says what the contents show.
 pub record Judging (L E A : Type 0) : Type 1 where
   pub row_count : RawBoard → ℕ
   pub read : Text → RawBoard → Result L E

@@ -40,15 +40,15 @@ pub record IsChainTestText (texts : ChainTexts) (text : Text) : Type 0 where
   pub bounds : AreLengths lengths
   pub tests : IsChainTest lengths text
 
--- The text is the listing of the device that the BSDL text describes. The device keeps the rules of a device.
+-- The text is the listing of the device that the BSDL text describes. The device satisfies the rules of a device (`IsDevice`).
 pub record IsDeviceListing (text listing : Text) : Type 0 where
   pub device : RawDevice
   pub described : IsDeviceText text (Ok device)
   pub rules : IsDevice device
   pub is : listing ≡ device_text device
 
--- The text is a coverage list of the board that these texts denote. The board keeps the rules of a board. The statements of the list about
--- nets, pins and pairs are true for all safe settings.
+-- The text is a coverage list of the board that these texts denote. The board satisfies the rules of a board (`IsBoard`). The statements of
+-- the list about nets, pins and pairs are true for all safe settings.
 pub record IsCoverText (texts : BoardTexts) (text : Text) : Type 0 where
   pub board : RawBoard
   pub denoted : Denotes texts.chain texts.nets texts.bsdl board
@@ -84,11 +84,11 @@ pub record IsRight (board : RawBoard) (rows : List (List Bool)) (pass : Bool) (f
   pub lists : ListsExplaining board rows faults
   pub none : pass ≡ true → faults ≡ []
 
--- The text of the board's test means the clocks of the test's scans. The logs of the test refer to these clocks.
+-- The meaning of the text of the board's test is the clocks of the test's scans. The logs of the test refer to these clocks.
 abbrev pub TestMeans : RawBoard → Type 0
 TestMeans board = meaning (board_text board) ≡ Some (test_clocks (svf_scans board))
 
--- the text of the walking test means the clocks of the walking test's scans
+-- the meaning of the text of the walking test is the clocks of the walking test's scans
 abbrev pub WalkMeans : RawBoard → Type 0
 WalkMeans board = meaning (board_walk_text board) ≡ Some (test_clocks (walk_scans board))
 

@@ -44,7 +44,7 @@ fn put_cover<K: Sink>(alloc: Global, board: &Board, out: &mut K) -> Result<(), U
     put
 }
 
-// Like `put_cover`, but also takes the board's classes.
+// Like `put_cover`, but also takes `classes`, which must be the board's classes.
 fn put_list<K: Sink>(
     alloc: Global,
     board: &Board,

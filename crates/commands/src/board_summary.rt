@@ -95,8 +95,8 @@ fn net_count(board: &Board) -> u32
     board.raw().nets.len() as u32
 }
 
-// Returns the number of bytes of the text of the plan's test, or the largest number of 64 bits if the text has more bytes. Writes the text
-// to a sink that only counts bytes.
+// Returns the number of bytes of the text of the plan's test, or the largest 64-bit number if the text has more bytes. Writes the text to a
+// sink that only counts bytes.
 fn text_bytes(alloc: Global, test: &BoardPlan<'_>) -> Result<u64, AllocError>
     ensures { IfOk result
         (λ bytes. bytes
@@ -122,7 +122,7 @@ fn board_counts(alloc: Global, board: &Board) -> Result<Counts, AllocError>
     counts
 }
 
-// Like `board_counts`, but also takes the board's classes and the pins of its nets.
+// Like `board_counts`, but also takes `classes` and `pins`, which must be the board's classes and the pins of its nets.
 fn classed_counts(
     alloc: Global,
     board: &Board,
@@ -141,7 +141,7 @@ fn classed_counts(
     counts
 }
 
-// Like `board_counts`, but takes the board's test instead of the board, and the board's classes.
+// Like `board_counts`, but takes the board's test. `classes` must be the board's classes.
 fn planned_counts(
     alloc: Global,
     test: &BoardTest<'_>,
@@ -157,7 +157,8 @@ fn planned_counts(
     Ok(counts_of(test.board(), classes, test.plan(), bytes))
 }
 
-// Returns the counts of a board and of its plan's test, whose text has `bytes` bytes.
+// Returns the counts of a board and of its plan's test. `bytes` is the number of bytes of the test's text. `classes` must be the board's
+// classes.
 fn counts_of(board: &Board, classes: &Classes, plan: &Plan, bytes: u64) -> Counts
     requires { AreClasses board.now classes.now }
     ensures devices { result.devices ≡ length board.now.chain }

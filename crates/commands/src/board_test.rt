@@ -69,7 +69,7 @@ fn tests_board(board: &Board)
     board_texts_test();
 }
 
-/// States that the text of any data scans of the board means the clocks of these scans. Does nothing.
+/// States that, for any data scans of the board, the meaning of their text is the clocks of these scans. Does nothing.
 pub fn test_means(board: &Board)
     ensures { (scans : List RowScan)
         → meaning (svf_text (board_scans board.now scans))
@@ -99,9 +99,10 @@ fn singles_respond(board: &Board)
     scans_in_turn();
 }
 
-/// States the laws on which the diagnoses of a board rest. The board keeps the rules. The text of any data scans of the board has a
-/// meaning. A log with the rows and bits of the board's test has the shape of the test. Each single fault of the board has one response. A
-/// diagnosis lists exactly the faults that explain its log. No fault explains a log that passes. Does nothing.
+/// States the laws on which the diagnoses of a board rest. The board satisfies the rules of a board (`IsBoard`). The meaning of the text of
+/// any data scans is the clocks of these scans. A log with the rows and bits of the board's test has the shape of the test. Each single
+/// fault of the board has one response. A diagnosis lists exactly the faults that explain its log. No fault explains a log that passes.
+/// Does nothing.
 pub fn judging_laws(board: &Board)
     ensures rules { IsBoard board.now }
     ensures means { (scans : List RowScan)
@@ -129,7 +130,7 @@ pub fn longest_scan(board: &Board) -> u32
     board.ir_bits().max(board.dr_bits())
 }
 
-/// The rows in which the scans of a test are made, and the kept rows of a whole pass.
+/// The rows in which the scans of a test are made, and the rows of one whole pass, which are computed once for all scans of the pass.
 #[derive(Drop)]
 pub struct TestRows {
     pub rows: Rows,
@@ -186,8 +187,9 @@ fn write_scans<K: Sink>(
     write_tail(out)
 }
 
-// Writes scan `k` of a plan. `k` must be below the number of scans. If `held` has a shape, `k` must not be 0, the rows must hold scan `k -
-// 1`, and the shape must be the shape of scan `k - 1`. Afterwards the rows hold scan `k`, and `held` has the shape of scan `k`.
+// Writes scan `k` of a plan. `k` must be below the number of scans. `kept` and `rows` must have been made for the board of the test. If
+// `held` has a shape, `k` must not be 0, the rows must hold scan `k - 1`, and the shape must be the shape of that scan. Afterwards the rows
+// hold scan `k`, and `held` has its shape.
 fn write_scan_at<K: Sink>(
     test: &BoardPlan<'_>,
     k: u64,
@@ -216,8 +218,9 @@ fn write_scan_at<K: Sink>(
     write_scan(shape, &scan.tdi, &scan.tdo, &scan.mask, line, out)
 }
 
-// Fills the rows with scan `k` of a plan and returns its shape. `k` must be below the number of scans. If `before` has a shape, `k` must
-// not be 0, the rows must hold scan `k - 1`, and the shape must be the shape of scan `k - 1`. In that case the call is faster.
+// Fills the rows with scan `k` of a plan and returns its shape. `k` must be below the number of scans. `kept` and `rows` must have been
+// made for the board of the test. If `before` has a shape, `k` must not be 0, the rows must hold scan `k - 1`, and the shape must be the
+// shape of that scan. In that case the call is faster.
 fn fill_at(
     test: &BoardPlan<'_>,
     k: u64,

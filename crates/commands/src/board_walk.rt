@@ -124,7 +124,7 @@ fn walk_of(alloc: Global, board: &Board) -> Result<Walk, AllocError>
     walk
 }
 
-// Like `walk_of`, but also takes the board's classes and the pins of its nets.
+// Like `walk_of`, but also takes `classes` and `pins`, which must be the board's classes and the pins of its nets.
 fn walk_by(
     alloc: Global,
     board: &Board,
@@ -172,7 +172,7 @@ fn is_harmless(board: &Board)
     walk_harmless();
 }
 
-// Like `put_walk`, but also takes the rows in which the scans are made.
+// Like `put_walk`, but also takes the rows in which the scans are made. The rows must have room for them.
 #[tactic(auto, unfolding(tap_defs::specs::chain::Text::svf_text))]
 fn write_walk<K: Sink>(walked: &Walked, rows: &mut Rows, out: &mut K) -> Result<(), PutFault>
     requires { EachStoredHasRoom (IsRoom walked.now.board) rows.old.scan }
@@ -185,7 +185,7 @@ fn write_walk<K: Sink>(walked: &Walked, rows: &mut Rows, out: &mut K) -> Result<
     write_tail(out)
 }
 
-// Writes scan `k` of a walking test. `k` must be below the number of scans.
+// Writes scan `k` of a walking test. `k` must be below the number of scans, and the rows must have room for the scan.
 fn write_walk_scan<K: Sink>(
     walked: &Walked,
     k: u64,

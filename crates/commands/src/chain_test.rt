@@ -33,7 +33,7 @@ pub fn chain<K: Sink>(alloc: Global, texts: &ChainTexts, out: &mut K) -> Result<
     }
 }
 
-// Writes the test of a chain whose instruction registers have these lengths.
+// Writes the test of a chain whose instruction registers have these lengths. There must be 1 to 255 lengths, each from 2 to 255.
 fn put_test<K: Sink>(alloc: Global, lengths: &[u32], out: &mut K) -> Result<(), Unput>
     requires { AreLengths lengths.now }
     ensures { PutsText (chain_text lengths.now) (K.shown out.old) (K.shown out.new) result }
@@ -66,7 +66,7 @@ fn instruction_bits(lengths: &[u32]) -> u32
     lengths.iter().sum()
 }
 
-// Like `put_test`, but also takes the rows in which the scans are made.
+// Like `put_test`, but also takes the rows in which the scans are made. The rows must have room for them.
 #[tactic(auto, unfolding(tap_defs::specs::chain::Text::svf_text))]
 fn write_test<K: Sink>(lengths: &[u32], rows: &mut Rows, out: &mut K) -> Result<(), PutFault>
     requires lengths { AreLengths lengths.now }

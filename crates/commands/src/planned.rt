@@ -57,7 +57,7 @@ impl Planned {
         BoardTest::of(&self.board, &self.plan)
     }
 
-    /// Returns the board's test with a log of the test. The log must have the test's numbers of rows and bits.
+    /// Returns `log` together with the board's test. The log must have the test's numbers of rows and bits.
     pub fn with_log<'a>(&'a self, log: &'a Log) -> LoggedTest<'a>
         requires { HasSize (test_rows self.now.board) (data_bits self.now.board) log.now }
         ensures { result ≡ logged_board self.now log.now }

@@ -1,4 +1,4 @@
--- Definitions about a board and its walking test. No public contract cites them.
+-- A board together with its walking test.
 use Rattle.board_defs.specs.declared.board.RawBoard.{RawBoard}
 use Rattle.walk_test.specs.declared.tables.WalkTables.{WalkTables}
 

@@ -55,7 +55,8 @@ pub record IsPutInPart (text : Text) (old new : Shown) : Type 0 where
   pub bytes : ℕ
   pub takes : Takes old new (take bytes text)
 
--- The sink took the whole text. Or it failed after it had taken some first bytes. Or memory ran out before the first write.
+-- one of three things happened: the sink took the whole text, it failed after it had taken some first bytes, or memory ran out before the
+-- first write
 abbrev pub PutsText : Text → Shown → Shown → Result (Unit {0}) Unput → Type 0
 PutsText text old new (Ok done) = Takes old new text
 PutsText text old new (Err (unput.Input fault)) = ⊥
