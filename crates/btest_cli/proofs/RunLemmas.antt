@@ -1,5 +1,5 @@
 -- Lemmas about runs of a command. For each way in which a run ends, they say what the run did. They also say that each run satisfies
--- `IsComplete`.
+-- `IsComplete`. A run agrees with a status if `IsRunOf` holds for the run and the status.
 use Rattle.std.proofs.Common.{◌≡◌, ℕ, zero, suc, Bool, true, false, nat_lt, length, List, [], ◌∷◌, Option, Some, None, Result, Ok, Err, refl, sym, ap, ◌∙◌, subst, inl, inr}
 use Rattle.std.specs.Prelude.{IfSome, map, take, ◌++◌, if◌then◌else◌}
 use Rattle.std.proofs.lemmas.List.{append-nil}
@@ -273,7 +273,7 @@ SomeOutcome =
     → known_reading held (wanted_of command) ≡ Some reading
     → (outcome : Result Text Text) × IsOutcome command reading outcome
 
--- the status `NoMemory` agrees with every outcome
+-- the status `NoMemory` is possible with every outcome
 settles_memory : (rose : Type 0) (outcome : Result Text Text) → Settles rose outcome status.NoMemory
 settles_memory rose (Ok text) = λ calm. inr refl
 settles_memory rose (Err line) = inr refl
@@ -411,7 +411,7 @@ FindsOne {L} {E} {A} judging =
     (board : RawBoard) (contents : L) (x y : A) → IsBoard board → judging.Finds board contents x
     → judging.Finds board contents y → x ≡ y
 
--- if texts denote a board, the board keeps the rules of a board
+-- if texts denote a board, the board satisfies the rules of a board
 abbrev KeepRules : Type 0
 KeepRules = (chain nets : Text) (texts : List Text) (board : RawBoard) → Denotes chain nets texts board → IsBoard board
 

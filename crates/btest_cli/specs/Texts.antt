@@ -3,7 +3,7 @@ use Rattle.std.specs.Prelude.{◌≡◌, ℕ, ◌<◌, List, [], ◌∷◌, ◌+
 use Rattle.command_line.specs.declared.command.Command.TheVariants.{Diagnose, Groups, Batch}
 use Rattle.command_line.specs.Words.{Text, Command, board_names, names_in_command}
 
--- a text to read: its name, and the most bytes that it may have
+-- a text to read: its name, and the largest number of bytes that it may have
 pub record Wanted : Type 0 where
   pub name : Text
   pub limit : ℕ

@@ -26,7 +26,7 @@ use std::thread::Threads;
 use walk_test::law::logs_have_one_set;
 
 /// Runs a command line: reads its words, fetches the texts that they name, checks these texts, and writes the text that they give to `out`.
-/// At every status but `Done`, writes one line to `notes`.
+/// At every status but `Done`, writes one line to `notes`. If `notes` fails, it takes only some first bytes of this line.
 pub fn run<R: Threads + Sync, S: Store, K: Sink, N: Sink, G: Gate>(
     rt: &R,
     alloc: Global,
