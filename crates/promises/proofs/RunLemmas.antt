@@ -68,7 +68,7 @@ module _ (run : Run) (is : IsRun run) (command : Command) (asks : HasWordsOf run
   pub cut_here : run.status ≡ WriteFault → IsCutShort run.old.held command run.old.asked run.new.asked (out_of run.old) (out_of run.new)
   cut_here e = here (λ c. IsCutShort run.old.held c run.old.asked run.new.asked (out_of run.old) (out_of run.new)) (is.cut e)
 
-  -- if the outcome of the texts that were read is a fault, the run ends as Refused
+  -- if the texts that were read give the line of a fault, the run ends as Refused
   pub ends_refused : SayOne → (reading : Reading) (line : Text)
       → known_reading run.old.held (wanted_of command) ≡ Some reading
       → IsOutcome command reading (Err line) → EndsWith run command Refused
@@ -80,7 +80,7 @@ module _ (run : Run) (is : IsRun run) (command : Command) (asks : HasWordsOf run
       by_outcome (Ok text) given settles = absurd (not_both (one.outcome command reading (Ok text) (Err line) given fault))
       by_outcome (Err other) given settles = settles
 
-  -- if the outcome of the texts that were read is a fault, the status is not Done
+  -- if the texts that were read give the line of a fault, the status is not Done
   pub not_done : SayOne → (reading : Reading) (line : Text)
       → known_reading run.old.held (wanted_of command) ≡ Some reading
       → IsOutcome command reading (Err line) → run.status ≢ Done

@@ -44,7 +44,7 @@ parsed_is (Batch workers log names) words (number, is, (are, few)) =
 pub command_is : (run : Run) (command : Command) → HasWordsOf run command → command_of run.words ≡ Some command
 command_is run command (are, plain) = ap (λ (b : Bool). if b then parsed run.words else None) plain ∙ parsed_is command run.words are
 
--- The lemmas below prove the converse: if the grammar makes a command of words, the words ask for this command.
+-- The lemmas from here on prove the converse: if the grammar makes a command of words, the words ask for this command.
 
 few : (n : ℕ) → nat_le n 255 ≡ true → n ≤ 255
 few n test = grind (arith, common_steps)

@@ -1,4 +1,4 @@
--- The promise of each command, in terms of the board and of its model, and the meaning of each other status.
+-- The promise of each command, in terms of the board and of its model, and the meaning of each status other than Done.
 use Rattle.std.specs.Prelude.{◌≡◌, ◌≢◌, ◌⊎◌, ◌↔◌, ℕ, ◌≤◌, Bool, true, false, List, [], ◌∷◌, ◌++◌, length, map, sum, take, Option, Some, Result, Ok, Err, AllPairs, Contains, Decides}
 use Rattle.bt_base.specs.Counts.{Rose}
 use Rattle.board_defs.specs.declared.board.RawBoard.{RawBoard}
@@ -71,7 +71,7 @@ TestsIdents run =
     × ((wiring : Wiring) (parts : List TestLogic) → AreCoded patterns parts → all_fit patterns parts ≡ true → PassesOn wiring parts clocks)
     × ((wiring : Wiring) (parts : List TestLogic) → AreCoded patterns parts → all_fit patterns parts ≡ false → FailsOn wiring parts clocks))
 
--- `device`: the text is the listing of the device that the file describes, and this device keeps the rules of a device
+-- `device`: the text is the listing of the device that the file describes, and this device satisfies the rules of a device
 abbrev pub ListsDevice : Run → Type 0
 ListsDevice run =
     (name text : Text) (device : RawDevice) → RunsOn run (Device name) (text ∷ []) → IsDeviceText text (Ok device) →
@@ -114,8 +114,8 @@ SumsUp run =
     → Denotes (made.chain_file_text parts) (made.net_text parts) (bsdl_text ∷ []) board
     → PrintsText run (Make parts) (λ text. text ≡ summary board)
 
--- The text of the board's test means the clocks of the test's scans. Each single fault explains a log, and all logs that one fault explains
--- have the same compared bits.
+-- The meaning of the text of the board's test is the clocks of the test's scans. Each single fault explains a log, and all logs that one
+-- fault explains have the same compared bits.
 pub record HasResponses (board : RawBoard) : Type 0 where
   pub means : meaning (board_text board) ≡ Some (test_clocks (svf_scans board))
   pub some : (single : Single) → IsSingle board single → (log : List (List Bool)) × Explains board single log

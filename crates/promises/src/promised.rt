@@ -1,4 +1,4 @@
-// The promises of the program: first the promise of each command, and then the meaning of each other status.
+// The promises of the program: first the promise of each command, and then the meaning of each status other than Done.
 ghost use Rattle.promises.specs.Runs.{desk_run, ends_of, run_of};
 ghost use Rattle.promises.specs.Promises.{DiagnosesBlocks, DiagnosesLog, FindsGroups, FindsOutcome, ListsCover, ListsDevice, RestsOnBlocks, RestsOnFiles, RestsOnLog, RestsOnWalkLog, SumsUp, TellsFault, TellsLong, TellsMemory, TellsUnread, TellsUnwritten, TellsUsage, TestsBoard, TestsChain, TestsIdents, WalksBoard};
 
