@@ -121,7 +121,7 @@ pub fn start_fault(text: &[u8]) -> Option<BatchFault>
     None
 }
 
-// Returns the fault of this line, which has words, unless the line is a title.
+// Returns `Start(number)` unless the line is a title. The line is the first line of the text that has words, and `number` is its number.
 fn no_title(line: &[u8], number: u32) -> Option<BatchFault>
     ensures { result ≡ start_fault (record { number = number; words = words_of line.now } ∷ []) }
 {

@@ -47,7 +47,7 @@ same_pin board p q at a b =
       same_Some p.pin q.pin (sym a.has_pin ∙ ap (λ (v : PortBit). v.pin) bit ∙ b.has_pin),
     )
 
--- two pins of the nets that have the same place in the chain are the same pin of the same net
+-- no two different pins of the nets have the same place in the chain
 pub pins_once : (board : RawBoard) → IsBoard board
     → (n m : ℕ) (net other : Net) (i j : ℕ) (p q : NetPin) (at : PinAt)
     → slice_get board.nets n ≡ Some net → slice_get board.nets m ≡ Some other

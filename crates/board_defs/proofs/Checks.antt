@@ -21,7 +21,7 @@ item_by test xs i x h e = all_has test xs x h (has_at xs i x e)
 pub below_by : (test : ℕ → Bool) (n k : ℕ) → list_all test (range_with_len 0 n) ≡ true → k < n → test k ≡ true
 below_by test n k h less = all_has test (range_with_len 0 n) k h (has_range 0 n k (omega arith) (omega arith))
 
--- the test passes for each item and each later item
+-- `test x y` is true for each item `x` and each item `y` after it
 abbrev pub later_pass : {X : Type 0} → (X → X → Bool) → List X → Bool
 later_pass test [] = true
 later_pass test (x ∷ xs) = list_all (test x) xs && later_pass test xs

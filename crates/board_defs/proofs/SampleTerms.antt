@@ -50,8 +50,8 @@ supply_usable = refl
 supply_rules : IsBoard (meeting true [])
 supply_rules = board_of (meeting true []) refl
 
--- a pin of the test access port, a pin that the compliance patterns name, a dark pin and a pin of a part outside the chain guard the
--- net
+-- Each of these pins guards the net: a TAP pin, a pin that the compliance patterns name, and three dark pins. The dark pins are an input
+-- without an entry, a linkage pin, and a pin of a part that is neither in the chain nor inert.
 tap_net : reason false (clock 2 ∷ []) ≡ Some TestPort ∷ []
 tap_net = refl
 

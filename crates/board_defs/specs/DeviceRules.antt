@@ -175,7 +175,7 @@ range_indexes left right =
     cond (nat_le left right) (range_with_len left (right - left + 1))
     (reverse (range_with_len right (left - right + 1)))
 
--- the one bit of a plain port has no index, and the bits of a vector have the indexes of its range
+-- Either there is one bit, which has no index (a plain port), or the bits have the indexes of a range, from left to right (a vector).
 abbrev pub AreIndexed : List PortBit → Type 0
 AreIndexed bits =
     (map (λ bit. bit.index) bits ≡ None ∷ [])

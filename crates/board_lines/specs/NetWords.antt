@@ -38,7 +38,6 @@ lent_word w = ((w.0.0, lent_pin w.0.1), w.1)
 abbrev pub same_place : NetWord → NetWord → Bool
 same_place a b = (word_net a == word_net b) && same_pin (word_pin a) (word_pin b)
 
--- the name is in the list
 abbrev pub is_among : List (List ℕ) → List ℕ → Bool
 is_among names name = is_some (first_place same_word names name)
 

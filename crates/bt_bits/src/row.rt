@@ -15,7 +15,7 @@ use std::alloc::{AllocError, Global};
 use std::marker::Model;
 use thiserror::Error;
 
-/// The reason why a text is not the hexadecimal field of a row.
+/// The reason why a text is not a hexadecimal field for the given number of bits.
 #[derive(Clone, Copy, Debug, PartialEq, Eq, Error)]
 pub enum HexFault {
     /// The text has more or fewer digits than the bits need.

@@ -10,7 +10,7 @@ same_request e = cc
 none_made : {a : Request} → ◌≡◌ {A = Option Request} None (Some a) → ⊥
 none_made e = cc e
 
--- if P holds for each kind of command with its texts, it holds for every request
+-- If P holds for each kind of command, its texts and the request that they make, P holds for every command and texts that make a request.
 module _ (P : Command → List Text → Request → Type 0)
     (of_chain : (names : ChainNames) (chain : Text) (bsdl : List Text)
     → P (Chain names) (chain ∷ bsdl) (Chain (chain_texts chain bsdl)))

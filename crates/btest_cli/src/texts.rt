@@ -33,7 +33,7 @@ fn text_called<'a>(name: &'a str) -> Wanted<'a>
     }
 }
 
-// Returns the response log or batch of logs with this name, as a text to read.
+// Returns the `Wanted` for the response log or batch of logs with this name: the name, with the limit `MOST_LOG_BYTES`.
 fn log_called<'a>(name: &'a str) -> Wanted<'a>
     ensures { wanted_view result ≡ wanted_log name.entry.now }
 {

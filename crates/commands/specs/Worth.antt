@@ -70,8 +70,8 @@ pub record IsIdentTestText (texts : ChainTexts) (text : Text) : Type 0 where
   pub bounds : ArePatterns patterns
   pub tests : IsIdentTest patterns text
 
--- The text has a meaning and may be applied to the board that these texts denote. The test passes if nothing is faulty. After its reset, it
--- is quiet (`IsQuiet`) under every fault set, so it never enables two boundary-scan drivers on one net.
+-- The text is harmless to the board that these texts denote (`IsHarmless`). It has a meaning, and passes if nothing is faulty. After its
+-- reset, it is quiet (`IsQuiet`) under every fault set, so it never enables two boundary-scan drivers on one net.
 pub record IsWalkText (texts : BoardTexts) (text : Text) : Type 0 where
   pub board : RawBoard
   pub denoted : Denotes texts.chain texts.nets texts.bsdl board

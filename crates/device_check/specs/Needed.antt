@@ -35,8 +35,8 @@ pub record FoundValues : Type 0 where
   pub registers : FoundRegisters
   pub chosen : FoundPackage
 
--- The result of the next step for the value. If there is no value, the source is missing or wrong,
--- and the source is the error.
+-- If there is a value, the result of the next step `next` for this value. Otherwise the error `source`,
+-- which is the attribute or pin map that is missing, repeated or wrong.
 abbrev pub need : {A B : Type 0} → Source → Option A → (A → Result B Source) → Result B Source
 need source None next = Err source
 need source (Some value) next = next value

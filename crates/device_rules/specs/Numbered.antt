@@ -41,7 +41,7 @@ breaks_pattern ir capture idcode number =
     if number == 1 then not (has_length ir capture && ends_in_01 capture) else
     if number == 2 then not (may_be_idcode idcode) else false
 
--- the cell number of the entry is not below the length of the register
+-- the entry's cell number is at least `boundary`, the length of the boundary register
 abbrev pub is_outside : ℕ → List Entry → Entry → Bool
 is_outside boundary before entry = nat_le boundary entry.num
 

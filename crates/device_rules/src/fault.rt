@@ -6,7 +6,8 @@ use crate::broken::Broken;
 use std::alloc::AllocError;
 use thiserror::Error;
 
-/// The first rule that a draft breaks, or lack of memory.
+/// The reason why a draft, which is a device as its BSDL text states it, describes no device. It is the first rule that
+/// the draft breaks, with the first item that breaks the rule, or lack of memory.
 #[derive(Clone, Copy, Debug, PartialEq, Eq, Error)]
 pub enum DraftFault {
     #[error("rule V{} item {}", .0.rule, .0.item)]

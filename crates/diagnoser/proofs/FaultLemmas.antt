@@ -141,7 +141,8 @@ module _ (board : RawBoard) (rules : IsBoard board) (plan : PlanTables) (lists :
           (λ single candidate on. only single on)
           (λ single candidate explains. all single candidate explains) those
 
-  -- if a search returns the suspects' faults that explain the log, these are all single faults of the board that explain the log
+  -- If a search returns exactly those suspects' faults that explain the log, it returns exactly those single faults of the board that
+  -- explain the log.
   pub all_found : {V E : Type 0} (view : V → List Single) (result : Result V E)
       → IfOk result
       (λ v. Picks (λ single. Explains board single log)

@@ -35,7 +35,7 @@ open_places board = as_places (flat_map open_faults (tested_pins board))
 abbrev pub short_places : RawBoard → List (Option Single)
 short_places board = flat_map (pair_places board) (pairs_within (covered_nets board))
 
--- the places of a board, in order
+-- the places of a board: those of stuck nets, then those of open pins, then those of shorts
 abbrev pub places_of : RawBoard → List (Option Single)
 places_of board = stuck_places board ++ (open_places board ++ short_places board)
 

@@ -44,7 +44,7 @@ abbrev pub IsLeast : (ℕ → Bool) → ℕ → Option ℕ → Type 0
 IsLeast is bound None = (n : ℕ) → n < bound → is n ≡ false
 IsLeast is bound (Some least) = (least < bound) × (is least ≡ true) × ((n : ℕ) → n < least → is n ≡ false)
 
--- the first item if there is one, or otherwise the second
+-- the first option if it has an item, or otherwise the second option
 abbrev pub or_else : {A : Type 0} → Option A → Option A → Option A
 or_else (Some found) other = Some found
 or_else None other = other

@@ -110,7 +110,7 @@ prints_done {T} {U} {E} {F} {old} {new} {p} {l} {a} {r} {x} {y} prints ok = reco
   cause = tt;
 }
 
--- A call that writes the line and the text to the sink, and then has an empty line, prints the text.
+-- If a call puts the line's old bytes `p` and then the text `a` to the sink, and leaves the line empty, the call prints `a`.
 pub prints_put : {T E : Type 0} {old new : Shown} {p l a b : List ℕ} {r : Result T E}
     → Puts old new b r → b ≡ p ++ a → l ≡ [] → Prints old new p l a r
 prints_put {T} {E} {old} {new} {p} {l} {a} {b} {r} put same empty = by r put

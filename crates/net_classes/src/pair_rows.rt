@@ -26,7 +26,8 @@ use std::alloc::{AllocError, Global};
 pub struct PairRows {
     /// The rows. Row 0 is the row of the covered nets.
     pub(crate) rows: Vec<NetRow>,
-    /// The number of the row of each control.
+    /// For each cell of each part, the number of the row of the control that is this cell. The number is 0 if the control's row is the row
+    /// of the covered nets, or if the cell is not a useful control.
     pub(crate) numbers: Vec<Vec<usize>>,
 }
 

@@ -148,9 +148,10 @@ fn pass_parts(
     Ok(PassParts { cells, codes })
 }
 
-// Returns the parts of a plan that this module makes. `pins` must be the pins of the board's nets. Each pass must be
-// safe, and each of its controls must control a driver of the board. There must be fewer than 2^32 passes. The pins and
-// the passes are borrowed, so this function never drops them.
+// Makes the rows that all passes share, the driver cells of the passes and the codes of the nets. `pins` must be the pins
+// of the board's nets. Each pass must be safe, and each of its controls must control a driver of the board. There must be
+// fewer than 2^32 passes. A function that owned the pins and the passes would have to drop them at each `?`, so this one
+// borrows them.
 fn plan_parts(
     alloc: Global,
     board: &Board,

@@ -136,8 +136,8 @@ fn is_steady(uses: &Uses, passes: u32, observer: Observer) -> bool
     is_common(uses, passes, observer.control)
 }
 
-/// Returns the cells of the steady observers. An observer is steady if there is at least one pass, each of the first
-/// `passes` passes enables the observer, and its cell is not the cell of a control of any pass.
+/// Returns the cells of the steady observers. `passes` must be the number of passes. An observer is steady if there is
+/// at least one pass, every pass enables the observer, and no pass has a control with the observer's cell.
 pub fn steady_cells(
     alloc: Global,
     uses: &Uses,

@@ -1,5 +1,5 @@
-// Facts about pins and nets that follow from the table of entries: driving entries, receivers, dark pins and guarded
-// nets.
+// Finds driving entries, receivers, dark pins and guarded nets in the board's table of entries. The table has the entries
+// of each port bit.
 ghost use Rattle.std.specs.Prelude.{◌≡◌, ◌&&◌, ◌||◌, find, Some};
 ghost use Rattle.std.specs.List.{list_any};
 ghost use Rattle.board_defs.specs.DeviceRules.{is_driving, is_receiving, may_receive};

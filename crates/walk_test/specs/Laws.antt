@@ -50,6 +50,6 @@ OneSet =
     (board : RawBoard) (log : List (List Bool)) (groups others : List (List ℕ)) → IsBoard board
     → Explain board log groups → Explain board log others → groups ≡ others
 
--- `count_walk_scans` of a board's walk is the number of scans of the board's walking test
+-- `count_walk_scans` returns the number of scans of a board's walking test, if `walk` has the tables of this test
 abbrev pub ScansCounted : Type 0
 ScansCounted = (board : RawBoard) (walk : WalkTables) → IsWalkOf board walk → count_walk_scans walk ≡ length (walk_scans board)

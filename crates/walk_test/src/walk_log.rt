@@ -63,8 +63,9 @@ impl<'a> WalkLog<'a> {
         Ok(WalkLog { log, nets, mask })
     }
 
-    /// Does nothing. The contract states the facts about the log: it has one row for each net, each row is as long as
-    /// the mask, and the mask has a 1 at each compared position of the nets.
+    /// Does nothing. The contract states these facts: the log has one row for each net and fewer than 2^32 rows, each row
+    /// is as long as the mask, each net has a compared position, and the mask has a 1 exactly at the compared positions of
+    /// the nets.
     pub fn laws(&self)
         ensures { AreLoggedNets self.now }
     {

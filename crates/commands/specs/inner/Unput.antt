@@ -14,7 +14,7 @@ use Rattle.commands.specs.Requests.{BoardTexts}
 use Rattle.commands.specs.declared.unput.Unput.{Unput}
 use Rattle.commands.specs.declared.unput.Unput.TheVariants as unput
 
--- the reason why a command writes nothing if a log that must have `rows` rows has this fault
+-- The reason why a command writes nothing if its log has this fault. `rows` is the number of rows that the log must have.
 abbrev pub unput_log : ℕ → LogFault → Unput
 unput_log rows (log.Memory e) = unput.Memory
 unput_log rows (log.Digit line) = unput.Log rows (log.Digit line)

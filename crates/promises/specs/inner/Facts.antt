@@ -1,4 +1,5 @@
--- The clauses of `run`, stated as one fact about a run, and the laws that texts have at most one answer.
+-- `IsRun` has the clauses of the contract of `run`, as one fact about a run. `SayOne` has the laws that the texts of a run have at most one
+-- result.
 use Rattle.std.specs.Prelude.{◌≡◌, ◌≢◌, ◌⊎◌, ℕ, List, Some, None, Result, IfSome}
 use Rattle.bt_base.specs.Counts.{Rose}
 use Rattle.bt_base.specs.Puts.{Shown}

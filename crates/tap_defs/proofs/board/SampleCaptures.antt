@@ -40,7 +40,8 @@ live_of instruction first second =
     in
     map (λ k. live drivers states (pin k 0)) (0 ∷ 1 ∷ 2 ∷ 3 ∷ [])
 
--- a driver is live if the latch of its control differs from the disable value, whatever the driver's bit is
+-- Under EXTEST, a driver that is always on is live. Any other driver is live if and only if the latch of its control cell differs from the
+-- disable value. If its data cell is another cell, the latch of the data cell does not matter.
 live_low : live_of Extest off off ≡ true ∷ true ∷ true ∷ false ∷ []
 live_low = refl
 

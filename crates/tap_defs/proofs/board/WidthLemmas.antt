@@ -1,4 +1,5 @@
--- The code width is the smallest width at which no code has only zeros or only ones.
+-- The code width of `n` codes is the smallest `w` for which `2 ^ w` is at least `n + 2`. So no code from 1 to `n` has only zeros or only
+-- ones.
 use Rattle.std.proofs.Common.{◌≡◌, ℕ, zero, suc, ◌+◌, ◌^◌, ◌<◌, ◌≤◌, Bool, true, false, cond, Option, Some, None, refl, ◌∙◌, ap, arith}
 use Rattle.std.specs.Prelude.{nat_le, find, unwrap_or}
 use Rattle.std.specs.List.{range_with_len}
