@@ -1,4 +1,4 @@
-// Tests of the text of a chain's identity test.
+// Tests of `write_ident`, which writes the SVF text that checks the identification codes of a chain's parts.
 ghost use Rattle.std.specs.Prelude.{◌≡◌, length, All, IfSome, IsTrue};
 
 use crate::missed::{Missed, expect};
@@ -27,7 +27,7 @@ fn are_whole(parts: &[Option<Code>]) -> bool
     parts.iter().all(is_whole)
 }
 
-// The digits of a pattern: 0, 1 and X. The last digit is nearest TDO.
+// The pattern of an identification code as text: 32 characters 0, 1 or X. The last character is nearest TDO.
 type Digits = [u8; 32];
 
 fn pattern(alloc: Global, digits: &Digits) -> Result<Code, AllocError> {
@@ -42,7 +42,7 @@ fn pattern(alloc: Global, digits: &Digits) -> Result<Code, AllocError> {
     Code::of(alloc, &symbols)
 }
 
-// Returns the patterns of a chain's parts.
+// Returns the pattern of each part of a chain, or `None` for a part without a pattern.
 fn patterns(alloc: Global, chain: &[Option<&Digits>]) -> Result<Vec<Option<Code>>, AllocError> {
     let mut parts = Vec::new(alloc);
     for part in chain {
@@ -54,7 +54,7 @@ fn patterns(alloc: Global, chain: &[Option<&Digits>]) -> Result<Vec<Option<Code>
     Ok(parts)
 }
 
-// Writes the text of the identity test.
+// Writes the SVF text for these parts. Writes nothing unless there are 1 to 255 parts and each pattern has 32 symbols.
 #[tactic(auto, using(ident_test::proofs::LengthLemmas::room_of))]
 fn put_ident(
     alloc: Global,
@@ -71,7 +71,7 @@ fn put_ident(
     Ok(write_ident(parts, &mut tdi, &mut tdo, &mut mask, &mut line, out))
 }
 
-// Returns the text that consists of the head, this statement and the tail.
+// Returns the whole SVF text whose only scan is `statement`.
 fn text_of(alloc: Global, statement: &[u8]) -> Result<Vec<u8>, AllocError> {
     let mut text = HEAD.to_vec(alloc)?;
     text.extend_from_slice(statement)?;
@@ -95,7 +95,8 @@ const LOWEST: &Digits = b"00000000000000000000000000000001";
 
 const BOTH_ENDS: &Digits = b"1XXXXXXXXXXXXXXXXXXXXXXXXXXXXXX1";
 
-// The patterns of a chain, and the expected statement. A part without a pattern has one bit.
+// The patterns of a chain, and the expected scan statement. For a part without a pattern, the scan has one bit, that of the bypass
+// register.
 type Chain = (&'static [Option<&'static Digits>], &'static [u8]);
 
 static CHAINS: [Chain; 4] = [
@@ -125,7 +126,7 @@ fn compares_the_fixed_bits_of_patterns(rt: HostRuntime) -> Result<(), Missed> {
     Ok(())
 }
 
-// The fields of the longest statement, which has 2,040 digits: the text before the digits, the eight digits that are repeated, and the text
+// The fields of the longest scan statement: the text before the digits of a field, eight digits that are repeated 255 times, and the text
 // after the digits.
 static FIELDS: [(&[u8], &[u8], &[u8]); 3] = [
     (b"TDI (", b"00000000", b")\n"),
@@ -163,7 +164,7 @@ fn puts_long_chains(rt: HostRuntime) -> Result<(), Missed> {
     expect(0, puts(rt.alloc(), &[Some(LOWEST); 255], &statement)?)
 }
 
-// The number of the put that fails after the sink has taken four bytes of it, counted from 1, and all bytes that the sink takes.
+// The number of a call of `put`, counted from 1, and all bytes that the sink has if this call fails after four bytes.
 static CUTS: [(u32, &[u8]); 3] = [
     (1, b"TRST"),
     (

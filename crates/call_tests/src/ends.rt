@@ -1,4 +1,4 @@
-// Tests of the files of the system, of sinks that write to the system's writers, and of sinks in memory.
+// Tests of `HostStore`, which reads files, of `HostSink`, which writes to a writer, and of the sinks in memory, `MemSink` and `CountSink`.
 use crate::missed::{Missed, expect};
 use bt_base::{
     CountSink, FetchFault, Gate, HostSink, HostStore, MemSink, OpenGate, PutFault, Sink, Store,
@@ -9,7 +9,7 @@ use std::fs::File;
 use std::io::{BufWriter, Write};
 use std::rt::Files;
 
-// The name of a text, the most bytes that the text may have, the store's answer, and the fetched bytes.
+// The name of a file, the maximum number of bytes to fetch, the result of the fetch, and the fetched bytes.
 type Fetch = (&'static str, u32, Result<(), FetchFault>, &'static [u8]);
 
 static FETCHES: [Fetch; 5] = [
@@ -20,7 +20,7 @@ static FETCHES: [Fetch; 5] = [
     (".", 3, Err(FetchFault::Failed), b""),
 ];
 
-// Returns whether the store gives this answer for the name, and fetches these bytes.
+// Returns whether fetching at most `cap` bytes of the text `name` has the result `answer` and gives these bytes.
 fn gives(
     store: &mut impl Store,
     alloc: Global,
@@ -57,7 +57,7 @@ fn long_text(alloc: Global) -> Result<Vec<u8>, AllocError> {
     Ok(text)
 }
 
-// The limit on a text that has 20,000 bytes, the store's answer, and the number of fetched bytes.
+// The maximum number of bytes to fetch of a text of 20,000 bytes, the result of the fetch, and the number of fetched bytes.
 static LONG: [(u32, Result<(), FetchFault>, usize); 2] = [
     (20_000, Ok(()), 20_000),
     (19_998, Err(FetchFault::TooLong), 19_999),
@@ -80,10 +80,10 @@ fn reads_a_file_in_many_chunks(rt: HostRuntime) -> Result<(), Missed> {
     given
 }
 
-// The bytes of a put, and the sink's answer.
+// The bytes of a call of `put`, and its result.
 type Put = (&'static [u8], Result<(), PutFault>);
 
-// Returns whether the sink gives the expected answers to these puts, in order.
+// Makes these calls of `put` in turn. Returns whether each has the expected result.
 fn takes(sink: &mut impl Sink, puts: &[Put]) -> bool {
     for (bytes, answer) in puts {
         if sink.put(bytes) != *answer {
@@ -99,7 +99,7 @@ static WRITTEN: [Put; 3] = [(b"ab", Ok(())), (b"", Ok(())), (b"c", Ok(()))];
 
 static REFUSED: [Put; 1] = [(b"abc", Err(PutFault::Failed))];
 
-// Returns whether the file has this text after these puts, while the sink that writes to the file still exists.
+// Returns whether the file `name` has this text after these calls of `put`, while the sink that writes to the file still exists.
 fn shows<W: Write + Drop>(
     rt: &impl Files,
     alloc: Global,
@@ -139,7 +139,8 @@ static CUT: [Put; 3] = [
     (b"ghijklm", Err(PutFault::Failed)),
 ];
 
-// Returns whether a sink with room for eight bytes takes the right bytes if its second put fails after one byte of it.
+// Returns whether a sink with room for eight bytes has the right bytes after the calls of `put` in `CUT`. The second call is set to fail
+// after one byte.
 fn is_cut(alloc: Global) -> Result<bool, AllocError> {
     let mut sink = MemSink::with_room(alloc, 8)?;
     sink.fail_at(2, 1)?;

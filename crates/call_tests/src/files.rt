@@ -1,4 +1,4 @@
-// Tests of the files of a board: the answers of their readers, joined files, and the files of generated boards.
+// Tests of chain files and net files: reading them, joining the nets that series parts connect, and generating the files of a board.
 use crate::missed::{Missed, expect};
 use board_defs::Name;
 use board_files::{ChainFile, ChainStatement, LineFault, NetFile, PinWord, chain, nets};
@@ -18,14 +18,14 @@ static CHAIN_FILES: [Answer; 22] = [
     (b"INERT U.1", "line 1: word not allowed"),
     (b"LINK R1 1 2-", "line 1: word not allowed"),
     (b"BYPASS U1 +3", "line 1: number not allowed"),
-    // The name of a part may have no dot. The other words may have dots.
+    // The name of a part must not have a dot. Other words may have dots.
     (b"DEVICE U1 D.RV P.Q", ""),
     (b"DEVICE U.1 DRV -", "line 1: word not allowed"),
     (b"DEVICE U1 DRV P\x7f", "line 1: word not allowed"),
     (b"DEVICE U1 DR\xc3\xa9 -", "line 1: word not allowed"),
     (b"DEVICE U1 DRV", "line 1: no statement"),
     (b"DEVICE U1 DRV - -", "line 1: no statement"),
-    // A wrong number of words is reported before a wrong word. A wrong word is reported before a wrong number.
+    // The reader reports a wrong number of words before a wrong word, and a wrong word before a wrong number.
     (b"DEVICE U.1 DRV", "line 1: no statement"),
     (b"BYPASS U.1 300", "line 1: word not allowed"),
     (b"PULL N\x01 2", "line 1: word not allowed"),
@@ -64,7 +64,7 @@ static NET_FILES: [Answer; 16] = [
     ),
 ];
 
-// Returns the chain file of a text of fewer than 1,000 bytes.
+// Reads a chain file. A text of 1,000 bytes or more gives an error.
 fn chain_of(alloc: Global, text: &[u8]) -> Result<ChainFile, LineFault> {
     if text.len() < 1000 {
         chain(alloc, text)
@@ -73,7 +73,7 @@ fn chain_of(alloc: Global, text: &[u8]) -> Result<ChainFile, LineFault> {
     }
 }
 
-// Returns the net file of a text of fewer than 1,000 bytes.
+// Reads a net file. A text of 1,000 bytes or more gives an error.
 fn nets_of(alloc: Global, text: &[u8]) -> Result<NetFile, LineFault> {
     if text.len() < 1000 {
         nets(alloc, text)
@@ -99,7 +99,7 @@ fn chain_files(rt: HostRuntime) -> Result<(), Missed> {
     Ok(())
 }
 
-// Returns whether a net file may have a net whose name has this many letters.
+// Returns whether `nets` accepts a net whose name has this many letters.
 fn has_long_name(alloc: Global, letters: usize) -> Result<bool, AllocError> {
     let mut text = String::from_str(alloc, "NET ")?;
     text.push_str(&"N".repeat(alloc, letters)?)?;
@@ -128,7 +128,7 @@ fn is_pin(pin: &PinWord) -> bool {
     pin.part.bytes() == b"u1".as_slice() && pin.pin.bytes() == b"A1.B".as_slice()
 }
 
-// Returns whether the file has exactly one line, `NET n1 u1.a1.b` on line 2 of the text, and has the pin's own name in upper case.
+// Returns whether the file has exactly one line. It must be line 2 of the text, with the net `n1` and pin `A1.B` of part `u1`.
 fn is_in_upper_case(file: &NetFile) -> bool {
     match file.lines() {
         [line] => match line.pins.as_slice() {
@@ -259,7 +259,8 @@ static JOINED: [(&[u8], &[u8], Shown); 9] = [
         b"NET E R3.1\nNET F R3.2 R4.1\nNET G R4.2 R5.1\nNET A R1.1\nNET B R1.2 R2.1\nNET C R2.2 R5.2",
         Shown::Files(b" E E E E E E inert R1 inert R2 inert R3 inert R4 inert R5"),
     ),
-    // Two nets have the pin R1.1, and the first of them is A. The first line of net B is before the first line of net A.
+    // Pin R1.1 is in the nets A and C, and the first of them counts. LINK joins A with B, and the joined net has the name B, whose first
+    // line comes before the first line of A.
     (
         b"LINK R1 1 2",
         b"NET Z\nNET B R1.2\nNET A R1.1\nNET C R1.1\nNET B\nNET A",
@@ -280,7 +281,7 @@ fn series_parts_join_nets(rt: HostRuntime) -> Result<(), Missed> {
     Ok(())
 }
 
-// The text of the chain file of two parts, worked out by hand.
+// The generated chain file of a board with two parts, worked out by hand.
 const CHAIN_OF_TWO: &[u8] = b"DEVICE U1 GEN -\nDEVICE U2 GEN -\n";
 
 const NETS_BEGIN: &[u8] = b"NET R1_0 U1.1 U2.33\nNET R1_1 U1.2 U2.34\n";
@@ -332,7 +333,7 @@ const BSDL_ENDS: &[u8] = b"
 end GEN;
 ";
 
-// Returns whether the text has this beginning and this end.
+// Returns whether the text starts with `begin` and ends with `end`.
 fn is_between(text: &[u8], begin: &[u8], end: &[u8]) -> bool {
     text.starts_with(begin) && text.ends_with(end)
 }
@@ -350,7 +351,7 @@ fn makes_the_text_of_the_device(rt: HostRuntime) -> Result<(), Missed> {
     expect(0, is_between(&made.bsdl, BSDL_BEGINS, BSDL_ENDS))
 }
 
-// The largest board takes little time, since the work is linear in the number of parts.
+// The test takes little time even for the largest board, since the work is linear in the number of parts.
 #[test]
 fn makes_the_largest_board(rt: HostRuntime) -> Result<(), Missed> {
     let made = make(rt.alloc(), 255)?;

@@ -1,5 +1,4 @@
-//! Tests of the public calls of the lower crates. Each test is a table with a function that goes through the
-//! table's rows.
+//! Tests of public functions of the library crates below the commands of btest. Most tests check each row of a table.
 #![tactic(auto)]
 
 #[cfg(test)]

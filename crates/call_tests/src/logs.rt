@@ -1,4 +1,4 @@
-// Tests of logs and of batches of logs, as texts. The values are worked out by hand.
+// Tests of reading a response log, and a batch of logs, from a text. The expected values are worked out by hand.
 ghost use Rattle.std.specs.Prelude.{◌<◌, ◌^◌, length};
 
 use crate::missed::{Missed, expect};
@@ -7,7 +7,7 @@ use response_log::{Log, log};
 use std::alloc::{AllocError, Global};
 use std::thread::Threads;
 
-// Appends the bits of each row, bit 0 first, and a space after each row.
+// Appends the bits of each row of a log, bit 0 first, and a space after each row.
 fn push_bits(text: &mut String, log: &Log) -> Result<(), AllocError> {
     for row in 0..log.rows() {
         for at in 0..log.len() {
@@ -24,7 +24,8 @@ fn bits_of(alloc: Global, log: &Log) -> Result<String, AllocError> {
     Ok(text)
 }
 
-// A text, the number of rows that the log must have, the number of bits in each row, and the bits of the log or the fault of the text.
+// The text of a log, the number of rows that the log must have, the number of bits in each row, and the expected answer: the bits of the
+// log, or the message of the text's first fault.
 type LogText = (&'static [u8], u64, u32, &'static str);
 
 static LOGS: [LogText; 20] = [
@@ -55,7 +56,7 @@ static LOGS: [LogText; 20] = [
     (b"3FF\n4FF\n3FF", 1, 10, "line 2: row too many"),
 ];
 
-// Returns the bits of the log in a text, or the text's fault.
+// Returns the bits of the log in a text, or the message of the text's first fault. The text must be shorter than 2^32 bytes.
 fn log_answer(alloc: Global, text: &[u8], rows: u64, len: u32) -> Result<String, AllocError>
     requires { length text.now < 2 ^ 32 }
 {
@@ -75,7 +76,7 @@ fn logs(rt: HostRuntime) -> Result<(), Missed> {
     Ok(())
 }
 
-// Returns the id and the bits of each block.
+// Returns the blocks of a batch as text: the id of each block, a colon, and the bits of its log.
 fn shown(alloc: Global, blocks: &[Block]) -> Result<String, AllocError> {
     let mut text = String::new(alloc);
     for block in blocks {
@@ -88,7 +89,8 @@ fn shown(alloc: Global, blocks: &[Block]) -> Result<String, AllocError> {
     Ok(text)
 }
 
-// Reads a batch in `pieces` pieces, or as a whole if `pieces` is 0, and returns the answer as text.
+// Reads a batch in `pieces` pieces, or as a whole if `pieces` is 0. Returns its blocks or its first fault as text. Each log has `rows` rows
+// of two bits. The text must be shorter than 2^32 bytes.
 fn answer_in<R: Threads + Sync>(
     rt: &R,
     alloc: Global,
@@ -110,7 +112,7 @@ fn answer_in<R: Threads + Sync>(
     }
 }
 
-// Returns whether reading a batch gives this answer, both as a whole and in several numbers of pieces.
+// Returns whether reading a batch of fewer than 1,000 bytes gives the answer `wanted`, both as a whole and in 1, 2, 3 and 64 pieces.
 fn answers<R: Threads + Sync>(
     rt: &R,
     alloc: Global,
@@ -129,7 +131,7 @@ fn answers<R: Threads + Sync>(
     Ok(true)
 }
 
-// A text, the number of rows that each log must have, and the blocks of the text or its fault.
+// The text of a batch, the number of rows that each log must have, and the blocks or the first fault of the batch, as text.
 type BatchText = (&'static [u8], u64, &'static str);
 
 static BATCHES: [BatchText; 29] = [
@@ -172,7 +174,7 @@ static BATCHES: [BatchText; 29] = [
         "board 1: line 4: row too many",
     ),
     (b"BOARD #\nBOARD A", 0, "line 1: board not allowed"),
-    // Lines that are not allowed at their places.
+    // Lines before the first title line, and title lines that do not have exactly one valid id.
     (b"1\nBOARD A", 2, "line 1: no board yet"),
     (b"\n# log\nboard A\nBOARD A", 2, "line 3: no board yet"),
     (b"1 # log\nBOARD\n", 2, "line 1: no board yet"),

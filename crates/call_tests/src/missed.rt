@@ -1,9 +1,9 @@
-// The reasons why a test fails.
+// The error with which a test of this crate fails.
 use std::alloc::AllocError;
 use std::io;
 use thiserror::Error;
 
-/// The reason why a table does not hold.
+/// The reason why a test fails.
 #[derive(Debug, Drop, Error)]
 pub enum Missed {
     /// The row with this number, counted from 0, has an unexpected result.
@@ -27,7 +27,7 @@ impl From<io::Error> for Missed {
     }
 }
 
-/// Returns an error with the number of the row, unless `holds` is true.
+/// Returns `Ok` if `holds` is true, and an error with the number of the row otherwise.
 pub fn expect(row: usize, holds: bool) -> Result<(), Missed> {
     if holds { Ok(()) } else { Err(Missed::Row(row)) }
 }

@@ -1,16 +1,16 @@
-// Tests of lines of text that are written to a sink.
+// Tests of `line_printer`, which writes lines of text to a sink.
 use crate::missed::{Missed, expect};
 use bt_base::{MemSink, PutFault, Sink};
 use bt_bits::Line;
 use line_printer::{begin_line, end_line, print, print_all, put_line};
 use std::alloc::{AllocError, Global};
 
-// The number of bytes of a name, the number of the put that fails, counted from 1, the answer of the writer, and the number of bytes that
-// the sink takes.
+// The length of a name in bytes, the number of the call of `put` that fails, counted from 1, the result of `put_name`, and the number of
+// bytes that the sink then has.
 type Cut = (usize, u32, Result<(), PutFault>, usize);
 
-// A line of up to 1,024 bytes, with its line feed, is written in one put. A longer line is written in pieces of 1,024 bytes, of which the
-// last may be shorter.
+// A line of up to 1,024 bytes, with its line feed, is written by one call of `put`. A longer line is written in pieces of 1,024 bytes. The
+// last piece may be shorter.
 static CUTS: [Cut; 14] = [
     (0, 1, Err(PutFault::Failed), 0),
     (0, 2, Ok(()), 6),
@@ -28,7 +28,7 @@ static CUTS: [Cut; 14] = [
     (2043, 4, Ok(()), 2049),
 ];
 
-// Writes the line that has the word NAME and this name.
+// Writes a line with the word NAME and the name.
 fn put_name<K: Sink>(name: &[u8], line: &mut Line, out: &mut K) -> Result<(), PutFault> {
     put_line(&[b"NAME ".as_slice(), name], line, out)
 }
@@ -66,7 +66,7 @@ fn print_nets<K: Sink>(line: &mut Line, out: &mut K) -> Result<(), PutFault> {
     end_line(line, out)
 }
 
-// Returns whether the pieces of a line go to the sink in one put, without the old content of the buffer.
+// Returns whether `print_nets` writes its whole line in one call of `put`, without the old content of the buffer.
 fn is_one_line(alloc: Global) -> Result<bool, AllocError> {
     let mut line = Line::new(alloc)?;
     line.push(b"dropped");

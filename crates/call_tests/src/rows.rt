@@ -1,12 +1,13 @@
-// Tests of rows of bits and of stacks of rows, which are compared as digits.
+// Tests of `Row`, a sequence of bits, and of `RowStack`, a stack of 16 rows of equal length. Most of them compare the hexadecimal digits of
+// rows.
 ghost use Rattle.std.specs.Prelude.{◌<◌};
 
 use crate::missed::{Missed, expect};
 use bt_bits::{Column, HexFault, Line, Row, RowStack};
 use std::alloc::{AllocError, Global};
 
-// The number of bits of a row, the places of its 1 bits, the first digit to print, the number of digits to print, and the printed
-// text.
+// The length of a row in bits, the positions of its 1 bits, the first digit to print, the number of digits to print, and the printed text.
+// Digits are counted from the left, from 0.
 type Printed = (u32, &'static [u32], u32, u32, &'static [u8]);
 
 static PRINTED: [Printed; 4] = [
@@ -22,7 +23,7 @@ static PRINTED: [Printed; 4] = [
     (5, &[0, 2, 3, 4], 0, 2, b"1D"),
 ];
 
-// Returns the row of `len` bits that has a 1 at each of these places.
+// Returns a row of `len` bits with a 1 at each position of `ones`. Ignores positions past the end of the row.
 fn row_of(alloc: Global, len: u32, ones: &[u32]) -> Result<Row, AllocError> {
     let mut row = Row::with_room(alloc, len)?;
     row.clear(len);
@@ -34,7 +35,8 @@ fn row_of(alloc: Global, len: u32, ones: &[u32]) -> Result<Row, AllocError> {
     Ok(row)
 }
 
-// Appends `count` digits of a row to a line, from digit `from` on.
+// Appends `count` hexadecimal digits of a row to a line, starting at digit `from`. Does nothing if the row has too few digits or the line
+// has no room for them.
 fn push_digits(row: &Row, from: u32, count: u32, line: &mut Line) {
     let end = u64::from(from) + u64::from(count);
     if line.len() + count as usize <= 1024 && end <= (u64::from(row.len()) + 3) / 4 {
@@ -103,7 +105,7 @@ fn a_line_takes_words_digits_and_numbers(rt: HostRuntime) -> Result<(), Missed> 
 
 static BITS: [bool; 5] = [true, false, true, true, true];
 
-// Returns whether a row takes the bits of a list in place of its old bits, and then a second row takes the bits of the first.
+// Copies `BITS` into a row, and this row into a second row. Returns whether both rows then have these bits.
 fn is_copied(alloc: Global) -> Result<bool, AllocError> {
     let mut row = row_of(alloc, 300, &[0, 299])?;
     if row.len() == 300 {
@@ -140,7 +142,7 @@ static STACKED: [[u8; 2]; 16] = [
     [1, 3],
 ];
 
-// Returns whether a stack has these digits in row `number`.
+// Returns whether row `number` of a stack has these digits. The first digit has the first four bits. `number` must be less than 16.
 fn has_row(alloc: Global, stack: &RowStack, number: u32, digits: &[u8]) -> Result<bool, AllocError>
     requires { number < 16 }
 {
@@ -149,7 +151,7 @@ fn has_row(alloc: Global, stack: &RowStack, number: u32, digits: &[u8]) -> Resul
     Ok(row.digits() == digits)
 }
 
-// Returns a stack of six-bit rows that are all the same.
+// Returns a stack in which each row has six bits, with a 1 at positions 1 and 4.
 fn common_stack(alloc: Global) -> Result<RowStack, AllocError> {
     let row = row_of(alloc, 6, &[1, 4])?;
     let mut common = RowStack::with_room(alloc, row.len())?;
@@ -157,14 +159,16 @@ fn common_stack(alloc: Global) -> Result<RowStack, AllocError> {
     Ok(common)
 }
 
-// The bits of a column of a stack: the bits of a number, one for each row, or the same bit in every row.
+// The bits of a column, which is one position in the 16 rows of a stack. With `Of`, row `j` has bit `j` of the number. With `Same`, every
+// row has the same bit.
 #[derive(Clone, Copy)]
 enum Bits {
     Of(u32),
     Same(bool),
 }
 
-// Columns that replace the columns at these places of a stack. The rows of the stack have six bits, and the last place is past their end.
+// Positions in the rows of a stack, and the columns to set there. The rows have six bits, so position 6 is past their end, and setting it
+// changes nothing.
 static COLUMNS: [(u32, Bits); 6] = [
     (0, Bits::Of(0x8002)),
     (1, Bits::Same(false)),
@@ -181,7 +185,7 @@ fn column(bits: Bits) -> Column {
     }
 }
 
-// Returns a copy of the stack in which the columns of `COLUMNS` replace the old columns.
+// Returns a copy of `common` with the columns of `COLUMNS` set.
 fn changed_stack(alloc: Global, common: &RowStack) -> Result<RowStack, AllocError> {
     let mut stack = RowStack::with_room(alloc, common.len())?;
     stack.copy_from(common);
@@ -207,7 +211,7 @@ fn stacks_rows(rt: HostRuntime) -> Result<(), Missed> {
     stacks_hold(rt.alloc(), &common, &changed)
 }
 
-// The text of a row, the number of the row's bits, and the answer of the reader.
+// A text, the number of bits to read from it, and the result of `read_hex`.
 type Read = (&'static [u8], u32, Result<(), HexFault>);
 
 static READ: [Read; 12] = [
@@ -225,7 +229,7 @@ static READ: [Read; 12] = [
     (b"2a5", 10, Ok(())),
 ];
 
-// Returns the answer of a row of `len` bits that reads the text.
+// Returns the result of reading `len` bits from the text.
 fn answer(alloc: Global, text: &[u8], len: u32) -> Result<Result<(), HexFault>, AllocError> {
     let mut row = Row::with_room(alloc, len)?;
     Ok(row.read_hex(text, len))
@@ -239,7 +243,7 @@ fn reads_digits(rt: HostRuntime) -> Result<(), Missed> {
     Ok(())
 }
 
-// Returns whether the row has this bit at this place.
+// Returns whether position `place` is in the row and has the bit `bit`.
 fn has_bit(row: &Row, place: u32, bit: bool) -> bool {
     place < row.len() && row.get(place) == bit
 }

@@ -1,4 +1,4 @@
-// Tests of the texts of scans.
+// Tests of `svf_writer`, which writes scans and the lines around them as SVF text.
 ghost use Rattle.std.specs.Prelude.{◌≡◌, ◌≤◌, ◌<◌, length, All, IfOk, IsTrue};
 ghost use Rattle.board_defs.specs.Limits.{IsInstructionLength};
 
@@ -9,14 +9,15 @@ use std::alloc::{AllocError, Global};
 use svf_writer::{write_chain, write_head, write_scan, write_tail};
 use tap_defs::Shape;
 
-// Returns whether each number is a possible length of an instruction register.
+// Returns whether each number is a valid length of an instruction register: 2 to 255 bits.
 fn are_lengths(lengths: &[u32]) -> bool
     ensures { IsTrue result → All IsInstructionLength lengths.now }
 {
     lengths.iter().all(|n| *n >= 2 && *n <= 255)
 }
 
-// Writes the scans of the test of a chain's length.
+// Writes the scans that test a chain whose instruction registers have these lengths. Writes nothing unless there are 1 to 255 lengths and
+// each is valid.
 #[tactic(auto, using(svf_writer::proofs::ChainLemmas::sum_at_most))]
 fn put_chain(
     alloc: Global,
@@ -64,7 +65,7 @@ fn puts_the_chain_test(rt: HostRuntime) -> Result<(), Missed> {
     Ok(())
 }
 
-// Returns a row of `len` bits. Its first and last bits are 1, and its other bits are 0.
+// Returns a row of `len` bits. Its first and last bits are 1, and its other bits are 0. `len` must be at least 5.
 fn tdi_of(alloc: Global, len: u32) -> Result<Row, AllocError>
     requires { 5 ≤ len }
     ensures { IfOk result (λ row. length row.bits ≡ len) }
@@ -76,7 +77,8 @@ fn tdi_of(alloc: Global, len: u32) -> Result<Row, AllocError>
     Ok(tdi)
 }
 
-// Writes a scan of `len` bits whose first and last bits are 1. If `compare` is true, the scan compares bit 4 with 1.
+// Writes a scan of `len` bits, from 5 to 1000, whose first and last TDI bits are 1. If `compare` is true, this is an instruction scan that
+// compares bit 4 with 1. Otherwise it is a data scan that compares nothing.
 #[tactic(auto, using(lists::proofs::ListLemmas::none_of_zeros))]
 fn put_scan(
     alloc: Global,
@@ -107,7 +109,7 @@ fn put_scan(
     }
 }
 
-// The number of a scan's bits, whether the scan compares one of them, and its text.
+// The length of a scan in bits, whether the scan compares bit 4, and the scan's text.
 type Scan = (u32, bool, &'static [u8]);
 
 static SCANS: [Scan; 5] = [
@@ -184,7 +186,7 @@ static SCAN_LINES: [&[u8]; 7] = [
     b"00000000010);\n",
 ];
 
-// Writes scans that need several lines: the test of the length of a chain of 40 parts, or a scan of 300 bits.
+// Writes scans whose text has several lines: the test of a chain of 40 parts, or a scan of 300 bits.
 fn put_lines(
     alloc: Global,
     is_chain: bool,
@@ -197,8 +199,8 @@ fn put_lines(
     }
 }
 
-// Makes put number `call`, counted from 1, fail after four bytes. Returns whether `put_lines` then returns `answer` and the sink holds
-// exactly `text`.
+// Makes call number `call` of `put`, counted from 1, fail after four bytes. Returns whether `put_lines` then returns `answer` and the sink
+// has exactly `text`.
 fn is_cut(
     alloc: Global,
     is_chain: bool,
@@ -239,7 +241,7 @@ fn put_ends(out: &mut MemSink) -> Result<(), PutFault> {
     write_tail(out)
 }
 
-// The room of a sink, the answer of the writer, and the bytes that the sink takes.
+// The number of bytes for which a sink has room, the result of `put_ends`, and the bytes that the sink then has.
 type End = (u32, Result<(), PutFault>, &'static [u8]);
 
 static ENDS: [End; 2] = [

@@ -1,4 +1,4 @@
-// Tests of words, codes, settings and names.
+// Tests of the words of a line, of counting codes, and of settings, names and bit patterns.
 use crate::missed::{Missed, expect};
 use board_defs::{Code, Ctl, Name, Setting, Symbol};
 use counting_codes::{bit, width};
@@ -27,7 +27,7 @@ fn words_of_a_line(_rt: HostRuntime) -> Result<(), Missed> {
     Ok(())
 }
 
-// A number of nets, and the width of their codes. At least two code words of this width are unused.
+// A number of nets, and the number of bits in their codes. At least two code words of this width are unused.
 static WIDTHS: [(u32, u32); 8] = [
     (1, 2),
     (2, 2),
@@ -39,7 +39,7 @@ static WIDTHS: [(u32, u32); 8] = [
     (16382, 14),
 ];
 
-// A code, the number of a bit, and the bit. Bit 0 is the least significant.
+// A code, the number of a bit, and the value of this bit. Bit 0 is the least significant.
 static CODE_BITS: [(u32, u32, bool); 5] = [
     (6, 0, false),
     (6, 1, true),
@@ -80,7 +80,7 @@ static IN_ORDER: [Ctl; 3] = [
     Ctl { part: 1, cell: 5 },
 ];
 
-// Adds the controls of `ADDED` one by one, and checks after each that the setting has the control.
+// Adds the controls of `ADDED` to the setting in turn. Checks after each that the setting has this control.
 fn add_all(setting: &mut Setting) -> Result<(), Missed> {
     for (row, control) in ADDED.iter().enumerate() {
         setting.add(*control)?;
