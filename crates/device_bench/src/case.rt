@@ -1,9 +1,9 @@
-// The reasons why a table of cases does not hold.
+// The error of the helpers of this crate.
 use bsdl_strings::StringFault;
 use std::alloc::{AllocError, AllocFailed};
 use thiserror::Error;
 
-/// The reason why a table of cases does not hold.
+/// The reason why the check of a table of cases fails.
 #[derive(Debug, Drop, Error)]
 pub enum CaseFault {
     /// The first case with an unexpected result.
@@ -17,7 +17,7 @@ pub enum CaseFault {
     /// A text has 2^32 bytes or more.
     #[error("too long")]
     TooLong,
-    /// A string that must have a value has none.
+    /// A string that a case needs is not in its grammar.
     #[error("{0}")]
     String(StringFault),
     #[error("out of memory")]
@@ -42,7 +42,7 @@ impl From<StringFault> for CaseFault {
     }
 }
 
-/// Compares the result of a case with the expected result.
+/// Returns `Ok` if the result of a case is `wanted`, and an error with the case and its result otherwise.
 pub fn compare(case: usize, found: String, wanted: &str) -> Result<(), CaseFault> {
     if found.as_str() == wanted {
         Ok(())

@@ -1,4 +1,4 @@
-// Checks of the devices that texts describe.
+// Checks of the devices that BSDL texts describe.
 ghost use Rattle.std.specs.Prelude.{◌<◌, ◌^◌, length};
 
 use crate::case::{CaseFault, compare};
@@ -10,18 +10,18 @@ use bsdl_parser::{ParseFault, parse};
 use device_check::{DeviceFault, device};
 use std::alloc::{AllocError, Global};
 
-/// The reason why a text describes no device.
+/// The reason why a text does not describe a device.
 #[derive(Debug, Drop)]
 pub enum TextFault {
-    /// The text has no list of tokens.
+    /// The lexer refuses the text.
     Lex(LexFault),
-    /// The tokens of the text derive no entity.
+    /// The parser refuses the tokens of the text.
     Parse(ParseFault),
-    /// The entity of the text describes no device.
+    /// The entity of the text does not describe a device.
     Device(DeviceFault),
 }
 
-/// Checks that each text, in its default package, describes this device or has this fault.
+/// Checks the device of each text in its default package. A case has a text and the expected device or fault, written as text.
 pub fn devices_hold(alloc: Global, cases: &[(Source, &'static str)]) -> Result<(), CaseFault> {
     for (case, (source, wanted)) in cases.iter().enumerate() {
         let text = source.bytes(alloc)?;
@@ -30,7 +30,8 @@ pub fn devices_hold(alloc: Global, cases: &[(Source, &'static str)]) -> Result<(
     Ok(())
 }
 
-/// Checks that the text, in each of these packages, describes this device or has this fault.
+/// Checks the device of one text in several packages. A case has a package, or `None` for the default package, and the expected device or
+/// fault, written as text.
 pub fn packages_hold(
     alloc: Global,
     source: Source,
@@ -43,7 +44,8 @@ pub fn packages_hold(
     Ok(())
 }
 
-/// Returns the device that a text describes.
+/// Returns the device that a text describes in this package, or in its default package if `package` is `None`. The text must be shorter
+/// than 2^32 bytes.
 pub fn device_of(alloc: Global, text: &[u8], package: Option<&[u8]>) -> Result<Device, TextFault>
     requires { length text.now < 2 ^ 32 }
 {
@@ -60,7 +62,7 @@ pub fn device_of(alloc: Global, text: &[u8], package: Option<&[u8]>) -> Result<D
     }
 }
 
-/// Returns a fault as text.
+/// Returns the message of a fault.
 pub fn shown_fault(alloc: Global, fault: &TextFault) -> Result<String, AllocError> {
     match fault {
         TextFault::Lex(fault) => format!(in alloc; "{fault}"),
@@ -78,7 +80,8 @@ fn shown(alloc: Global, text: &[u8], package: Option<&[u8]>) -> Result<String, A
     }
 }
 
-/// Returns a device as text: its entity, package, edition and codes, and the pin of each port bit.
+/// Returns a device as text: its entity, package and edition, the length of its instruction register, its preload code and its EXTEST code,
+/// and the pin of each port bit. A port bit without a pin has `-`.
 fn shown_device(alloc: Global, device: &Device) -> Result<String, AllocError> {
     let raw = device.raw();
     let mut shown = String::new(alloc);

@@ -1,4 +1,4 @@
-// Checks of the first rule that the contents of a BSDL text break, and of the device of contents that break no rule.
+// Checks of the first rule that the contents of a BSDL text break, and of the device that contents without faults describe.
 ghost use Rattle.std.specs.Prelude.{◌≡◌, true, OnOk};
 ghost use Rattle.device_rules.specs.Rules.{HasShortLists};
 
@@ -12,7 +12,7 @@ use bsdl_strings::{
 use device_rules::{Draft, DraftFault, TapPorts, raw_device};
 use std::alloc::{AllocError, Global};
 
-/// The contents of a BSDL text. Most of them are strings.
+/// The contents of a BSDL text: the values of its attributes and strings.
 #[derive(Drop)]
 struct Texts {
     edition: Edition,
@@ -29,12 +29,12 @@ struct Texts {
     entries: &'static str,
 }
 
-/// A change of the contents of a text without faults. It replaces one of them.
+/// A change to the contents of a BSDL text without faults. A variant names the part that it replaces.
 #[derive(Clone, Copy)]
 pub enum Change {
     /// Changes nothing.
     None,
-    /// The range of the port Q: the two bounds, and true if `to` joins the bounds.
+    /// The range of port Q: its two bounds, and true for `to` or false for `downto`.
     Range(u32, u32, bool),
     /// TAP_SCAN_OUT.
     ScanOut(&'static str),
@@ -48,7 +48,7 @@ pub enum Change {
     Map(&'static str),
     /// INSTRUCTION_OPCODE.
     Opcodes(&'static str),
-    /// INSTRUCTION_OPCODE, in a text of 2001.
+    /// INSTRUCTION_OPCODE, and the edition, which becomes 2001.
     Of2001(&'static str),
     /// INSTRUCTION_CAPTURE.
     Capture(&'static str),
@@ -58,7 +58,8 @@ pub enum Change {
     Entries(u32, &'static str),
 }
 
-/// Checks that each change breaks this rule at this item. Rule 0 and item 0 mean that the change breaks no rule.
+/// Checks the first rule that each change breaks, and the item at which the change breaks it. Rule 0 and item 0 mean that the change breaks
+/// no rule.
 pub fn rules_hold(alloc: Global, cases: &[(Change, (u32, u32))]) -> Result<(), CaseFault> {
     for (case, (change, (rule, item))) in cases.iter().enumerate() {
         expect_rule(alloc, case, &changed(&[*change]), *rule, *item)?;
@@ -66,7 +67,7 @@ pub fn rules_hold(alloc: Global, cases: &[(Change, (u32, u32))]) -> Result<(), C
     Ok(())
 }
 
-/// For each case, makes its changes together, and checks the first rule that they break and the item at which they break it.
+/// Like `rules_hold`, but makes several changes together in each case.
 pub fn orders_hold(
     alloc: Global,
     cases: &[(&'static [Change], (u32, u32))],
@@ -77,7 +78,7 @@ pub fn orders_hold(
     Ok(())
 }
 
-// Checks that the texts break this rule at this item.
+// Checks the first rule that the contents break, and its item. Zeros mean that they break no rule.
 fn expect_rule(
     alloc: Global,
     case: usize,
@@ -93,15 +94,16 @@ fn expect_rule(
     Ok(())
 }
 
-/// Makes these changes together, and compares the device, written as a text, with `wanted`. The text has each port bit with its index and
-/// its pin. It says whether the port bit belongs to the TAP, and whether compliance patterns name it. Then it has each cell with its port
-/// bit, and the number of ones in the preload code.
+/// Makes these changes together, and compares the device with `wanted`, the expected device as text. For each port bit, the text has the
+/// number of the port, the index, the pin, whether the bit belongs to the TAP, and whether compliance patterns name it. For each cell, it
+/// has the numbers of the cell and of its port bit. Last comes the number of ones in the preload code. A missing index is written as 0, a
+/// missing pin as `-`, and a missing port bit as 99.
 pub fn draft_holds(alloc: Global, changes: &[Change], wanted: &str) -> Result<(), CaseFault> {
     let shown = shown_device(alloc, &changed(changes))?;
     compare(0, shown, wanted)
 }
 
-/// Returns the contents of the text of a device with two outputs, after these changes.
+/// Returns the contents of a text without faults, after these changes. The text describes a device with two outputs.
 fn changed(changes: &[Change]) -> Texts {
     let mut texts = sound();
     for change in changes {
@@ -248,7 +250,7 @@ fn empty_draft(alloc: Global) -> Draft {
     }
 }
 
-/// Adds the values of the strings to a draft.
+/// Sets the parts of a draft that are read from strings.
 fn fill_strings(alloc: Global, texts: &Texts, draft: &mut Draft) -> Result<(), CaseFault> {
     draft.opcodes = opcodes_of(alloc, texts.opcodes)?;
     draft.capture = code_of(alloc, texts.capture)?;
@@ -259,7 +261,7 @@ fn fill_strings(alloc: Global, texts: &Texts, draft: &mut Draft) -> Result<(), C
     Ok(())
 }
 
-/// Fills an empty draft with these texts.
+/// Fills an empty draft with these contents.
 fn fill(alloc: Global, texts: &Texts, draft: &mut Draft) -> Result<(), CaseFault> {
     draft.entity = name(alloc, "DRV")?;
     draft.package = name(alloc, "P")?;
@@ -279,7 +281,7 @@ fn is_short(draft: &Draft) -> bool
         && draft.entries.len() < 1000
 }
 
-/// Fills an empty draft with these texts. Its lists must be short.
+/// Like `fill`, but returns `TooLong` if a list of the draft has 1,000 items or more.
 fn fill_short(alloc: Global, texts: &Texts, draft: &mut Draft) -> Result<(), CaseFault>
     ensures { OnOk result (HasShortLists draft.new) }
 {
@@ -291,7 +293,7 @@ fn fill_short(alloc: Global, texts: &Texts, draft: &mut Draft) -> Result<(), Cas
     }
 }
 
-/// Returns the number of the broken rule and the item, or zeros if no rule is broken.
+/// Returns the first rule that the contents break and the item at which they break it, or zeros if they break no rule.
 fn broken(alloc: Global, texts: &Texts) -> Result<(u32, u32), CaseFault> {
     let mut draft = empty_draft(alloc);
     fill_short(alloc, texts, &mut draft)?;
@@ -302,7 +304,7 @@ fn broken(alloc: Global, texts: &Texts) -> Result<(u32, u32), CaseFault> {
     }
 }
 
-/// Returns the device of these texts as text.
+/// Returns the device of these contents in the form that `draft_holds` describes, or `no device` if they break a rule.
 fn shown_device(alloc: Global, texts: &Texts) -> Result<String, CaseFault> {
     let mut draft = empty_draft(alloc);
     fill_short(alloc, texts, &mut draft)?;

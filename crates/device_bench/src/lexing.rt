@@ -1,11 +1,11 @@
-// Checks of the tokens of texts.
+// Checks of the tokens of BSDL texts.
 use crate::case::{CaseFault, compare};
 use crate::shown::add_bytes;
 use crate::source::Source;
 use bsdl_lexer::{LexFault, Token, lex};
 use std::alloc::{AllocError, Global};
 
-/// Checks that the lexer has this result for each text and finds this many tokens in it.
+/// Checks the result of the lexer on each text, and the number of tokens that it finds.
 pub fn lexings_hold(
     alloc: Global,
     cases: &[(Source, Result<(), LexFault>, usize)],
@@ -22,8 +22,8 @@ pub fn lexings_hold(
     Ok(())
 }
 
-/// Checks that each text has these tokens. Each line has the kind, the bytes and the line number of one
-/// token.
+/// Checks the tokens of each text. The expected tokens are written as text with one token on each line: its kind, its bytes and its line
+/// number.
 pub fn tokens_hold(alloc: Global, cases: &[(Source, &'static str)]) -> Result<(), CaseFault> {
     for (case, (source, wanted)) in cases.iter().enumerate() {
         let text = source.bytes(alloc)?;

@@ -1,5 +1,5 @@
-//! Checks of what BSDL texts denote, for the crates that test BSDL texts. Each check is proved here once, and its contract does not say
-//! which result it has. So a test is a table and one call, and has little to prove.
+//! Helpers for the crates that test the reading of BSDL texts. Each helper checks a table of cases. The helpers are proved here once, and
+//! their contracts do not say whether a table passes. So a test that calls a helper has little to prove.
 #![tactic(auto)]
 
 mod case;

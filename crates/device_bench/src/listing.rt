@@ -1,4 +1,4 @@
-// Checks of the listings of the devices that texts describe.
+// Checks of the listings that btest writes of the devices of BSDL texts.
 use crate::case::CaseFault;
 use crate::devices::{device_of, shown_fault};
 use crate::shown::add_bytes;
@@ -16,7 +16,7 @@ enum Wanted<'a> {
     Whole(&'a str),
     /// The listing ends with this text.
     End(&'a str),
-    /// The put with this number fails. The sink has then taken this many bytes, which end with this text.
+    /// The call of `put` with this number, counted from 1, fails. The sink then has this many bytes, which end with this text.
     Cut(u32, usize, &'a str),
 }
 
@@ -32,7 +32,7 @@ impl Wanted<'_> {
     }
 }
 
-/// Checks that the device of each text has this listing.
+/// Checks the listing of each text's device.
 pub fn listings_hold(alloc: Global, cases: &[(Source, &'static str)]) -> Result<(), CaseFault> {
     let mut line = Line::new(alloc)?;
     for (case, (source, wanted)) in cases.iter().enumerate() {
@@ -47,8 +47,8 @@ pub fn listing_ends(alloc: Global, source: Source, end: &str) -> Result<(), Case
     try_source(alloc, 0, &source, Wanted::End(end), &mut line)
 }
 
-/// For each of these puts, writes the listing to a sink that fails at this put. Checks that the sink takes this many bytes, and that the
-/// last of them are this text.
+/// Checks what a sink has after a failed write of the listing. A case has the number of the call of `put` that fails, counted from 1, the
+/// number of bytes that the sink then has, and the text with which they end.
 pub fn cuts_hold(
     alloc: Global,
     source: Source,
@@ -86,7 +86,7 @@ fn try_source(
     }
 }
 
-/// Checks the listing of a device. `line` may still have a part of an earlier listing.
+/// Checks the listing of a device. `line` is scratch space and may have any content.
 fn try_device(
     alloc: Global,
     case: usize,
@@ -114,7 +114,7 @@ fn described(alloc: Global, case: usize, source: &Source) -> Result<Device, Case
     }
 }
 
-/// Returns the fault of a case with the result `found`.
+/// Returns the error for a case whose result is `found`.
 fn ended(case: usize, found: Result<String, AllocError>) -> CaseFault {
     match found {
         Ok(found) => CaseFault::Ended { case, found },

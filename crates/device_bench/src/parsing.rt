@@ -1,4 +1,4 @@
-// Checks of the entities that texts describe.
+// Checks of the entities that BSDL texts describe.
 ghost use Rattle.std.specs.Prelude.{◌<◌, ◌^◌, length};
 
 use crate::case::{CaseFault, compare};
@@ -13,9 +13,9 @@ use std::alloc::{AllocError, Global};
 pub enum Reading {
     /// The text describes an entity.
     Entity,
-    /// The text has no list of tokens.
+    /// The lexer refuses the text.
     Lex(LexFault),
-    /// The tokens of the text derive no entity.
+    /// The parser refuses the tokens of the text.
     Parse(ParseFault),
 }
 
@@ -35,7 +35,7 @@ pub fn readings_hold(alloc: Global, cases: &[(Source, Reading)]) -> Result<(), C
     Ok(())
 }
 
-/// Checks that each text has this entity. The expected entity is written as text with one item on each line.
+/// Checks the entity of each text. The expected entity is written as text with one item on each line.
 pub fn entities_hold(alloc: Global, cases: &[(Source, &'static str)]) -> Result<(), CaseFault> {
     for (case, (source, wanted)) in cases.iter().enumerate() {
         let text = source.bytes(alloc)?;
@@ -48,7 +48,7 @@ pub fn entities_hold(alloc: Global, cases: &[(Source, &'static str)]) -> Result<
     Ok(())
 }
 
-/// Returns the entity of a text, or the reason why the text has none.
+/// Returns the entity of a text, or the reason why the text does not describe one. The text must be shorter than 2^32 bytes.
 fn entity_of(alloc: Global, text: &[u8]) -> Result<Entity, Reading>
     requires { length text.now < 2 ^ 32 }
 {
@@ -62,8 +62,8 @@ fn entity_of(alloc: Global, text: &[u8]) -> Result<Entity, Reading>
     }
 }
 
-/// Returns an entity as text: its name and default package, the packages that it uses, the pin maps, the ports with their modes and
-/// ranges, and the attributes with their numbers.
+/// Returns an entity as text, with one item on each line: the name and the default package, the packages of the `use` statements, the pin
+/// maps, the ports with their modes and ranges, and the attributes with their numbers.
 fn shown_entity(alloc: Global, entity: &Entity) -> Result<String, AllocError> {
     let mut shown = String::from_str(alloc, "entity ")?;
     add_bytes(entity.name.bytes(), &mut shown)?;

@@ -1,8 +1,8 @@
-// Appends names and codes in the form in which the cases write them.
+// Functions that append names and codes to a text, in the form in which the cases write them.
 use board_defs::{Code, Symbol};
 use std::alloc::AllocError;
 
-/// Appends the bytes of a name or a token.
+/// Appends the bytes of a name or a token, or `?` if they are not valid UTF-8.
 pub fn add_bytes(bytes: &[u8], shown: &mut String) -> Result<(), AllocError> {
     match std::str::from_utf8(bytes) {
         Ok(text) => shown.push_str(text),

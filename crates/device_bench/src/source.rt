@@ -25,8 +25,8 @@ attribute BOUNDARY_REGISTER of DRV : entity is
 end DRV;
 ";
 
-/// A two-bit three-state buffer, in two packages. Most of the text is in lower case, its attributes are in an unusual order, and btest does
-/// not read some of them.
+/// A two-bit three-state buffer with pin maps for two packages. Most of the text is in lower case, and its attributes are in an unusual
+/// order. Some of them are attributes that btest does not read.
 pub const BUF2: &str = "-- two-bit three-state buffer
 entity buf2 is
   generic (physical_pin_map : string := \"dw\");
@@ -60,7 +60,7 @@ entity buf2 is
 end buf2;
 ";
 
-/// The number of a line, counted from 1, and the text that replaces the line.
+/// The number of a line, counted from 1, and the text that replaces the line with its line feed.
 pub type Line = (usize, &'static str);
 
 /// The text of a case.
@@ -72,11 +72,11 @@ pub enum Source {
     Buffer,
     /// The driver `DRV`, with these lines replaced.
     Driver(&'static [Line]),
-    /// The first lines of the driver, as many as the number says, followed by this text.
+    /// This many first lines of the driver `DRV`, followed by this text.
     Front(usize, &'static str),
-    /// The first lines of the driver, followed by a text in which one byte is repeated.
+    /// The first lines of the driver `DRV`, followed by a text in which one byte is repeated.
     Filled {
-        /// The number of lines of the driver.
+        /// The number of lines to take from the driver.
         lines: usize,
         /// The text before the repeated byte.
         head: &'static str,
@@ -87,12 +87,12 @@ pub enum Source {
         /// The text after the repeated byte.
         tail: &'static str,
     },
-    /// The driver with a port of 500 bits in place of its outputs. Its pin map has only this port, on pins 100 to 599.
+    /// The driver `DRV` with a port of 500 bits in place of its outputs. Its pin map has only this port, on pins 100 to 599.
     Wide,
 }
 
 impl Source {
-    /// Returns the bytes of the text.
+    /// Returns the bytes of the text, or `TooLong` if there are 2^32 or more.
     pub fn bytes(&self, alloc: Global) -> Result<Vec<u8>, CaseFault>
         ensures { IfOk result (λ bytes. length bytes.items < 2 ^ 32) }
     {

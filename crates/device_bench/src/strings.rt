@@ -1,4 +1,4 @@
-// Checks of the values of strings in texts.
+// Checks of the values of strings in BSDL texts, such as pin maps.
 ghost use Rattle.std.specs.Prelude.{◌<◌, ◌^◌, length};
 
 use crate::case::CaseFault;
@@ -8,14 +8,14 @@ use board_defs::Symbol;
 use bsdl_strings::{Entry, PortWord, StringFault, boundary, compliance, opcodes, pattern, pin_map};
 use std::alloc::{AllocError, Global};
 
-/// The kind of a string.
+/// The grammar of a string.
 #[derive(Clone, Copy)]
 pub enum Grammar {
     /// A pin map.
     PinMap,
     /// Instructions with their codes.
     Opcodes,
-    /// A pattern.
+    /// A pattern of symbols, as in INSTRUCTION_CAPTURE and IDCODE_REGISTER.
     Pattern,
     /// Compliance patterns.
     Compliance,
@@ -23,7 +23,8 @@ pub enum Grammar {
     Boundary,
 }
 
-/// Checks that each string has this value, or that this entry of the string is the first that is not in the grammar.
+/// Checks the value of each string. A case has the string and its expected value, written as text, or the number of the first entry that is
+/// not in the grammar.
 pub fn strings_hold(
     alloc: Global,
     grammar: Grammar,
