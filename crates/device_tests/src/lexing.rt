@@ -1,4 +1,4 @@
-//! Tests of the tokens of texts.
+//! Tests of the tokens of BSDL texts.
 use bsdl_lexer::LexFault::{self, Byte, OpenString, TooMany};
 use bsdl_lexer::TOKEN_LIMIT;
 use device_bench::Source::{Bytes, Filled};
@@ -32,8 +32,7 @@ fn every_form_of_token(rt: HostRuntime) -> Result<(), CaseFault> {
     tokens_hold(rt.alloc(), &FORMS)
 }
 
-// Blanks, and the first and the last byte of each kind of mark. Next to each of them is a byte that is
-// neither a blank nor a mark.
+// All blanks, the first and the last byte of the marks, and the bytes just outside these ranges, which are neither blanks nor marks.
 static LETTERS: [(Source, Result<(), LexFault>, usize); 9] = [
     (Bytes(b"a\x0bb\x0cc\td e\rf\ng"), Ok(()), 7),
     (Bytes(b"\x08"), Err(Byte(1)), 0),

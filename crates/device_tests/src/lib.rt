@@ -1,4 +1,4 @@
-//! Tests of BSDL texts and of the devices that they describe, from tokens to listings, through the public calls of each crate.
+//! Tests of reading BSDL texts, from tokens to devices and their listings, through public functions.
 #![tactic(auto)]
 
 #[cfg(test)]

@@ -1,10 +1,10 @@
-//! Tests of the listings of the devices that texts describe.
+//! Tests of the listings that btest writes of the devices of BSDL texts.
 use crate::texts::{OF_2001, PRELOADS};
 use device_bench::Source::{Driver, Wide};
 use device_bench::{CaseFault, Source, cuts_hold, listing_ends, listings_hold};
 
 static LISTINGS: [(Source, &str); 3] = [
-    // In the listing of the codes, the symbol nearest TDO is last.
+    // The listing writes each code with the symbol nearest TDO last.
     (
         Driver(&[]),
         "ENTITY DRV\nPACKAGE P\nIR 2 SAMPLE 10 IDCODE -\nPORT TDI IN T1\nPORT TMS IN T3\nPORT TCK IN T4\nPORT TDO OUT T2\n\
@@ -22,7 +22,7 @@ static LISTINGS: [(Source, &str); 3] = [
         "ENTITY DRV\nPACKAGE P\nIR 2 PRELOAD 00 EXTEST 01 IDCODE XXXX0001001000110100000000000111\nPORT TDI IN T1\n\
          PORT TMS IN T3\nPORT TCK IN T4\nPORT TDO OUT T2\nPORT Q OUT 1 2\nCELL 0 OUTPUT2 Q(1) X\nCELL 1 OUTPUT2 Q(2) X\n",
     ),
-    // The listing of ports with their pins.
+    // Ports of every mode. Most of them have no pin.
     (
         Driver(&[
             (
@@ -63,8 +63,8 @@ fn lists_the_entries_of_a_cell_in_order(rt: HostRuntime) -> Result<(), CaseFault
     )
 }
 
-// The number of the put that fails, the number of bytes that the sink takes, and the last of these bytes. The first three lines of the
-// listing have 45 bytes together. The line of D has 2,010 bytes.
+// The number of the call of `put` that fails, the number of bytes that the sink then has, and the last of these bytes. The first three
+// lines of the listing have 45 bytes together. The line of port D has 2,010 bytes.
 const CUTS: [(u32, usize, &str); 3] = [(4, 45, ""), (5, 1069, ""), (6, 2055, " 599\n")];
 
 #[test]

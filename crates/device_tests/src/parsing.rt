@@ -1,4 +1,4 @@
-//! Tests of reading whole texts from their bytes.
+//! Tests of reading whole BSDL texts from their bytes.
 use bsdl_lexer::LexFault::{Byte, OpenString, TooMany};
 use bsdl_parser::ParseFault::{Expected, Package};
 use device_bench::Reading::{Entity, Lex, Parse};
@@ -23,13 +23,13 @@ static CHANGED: [(Source, Reading); 24] = [
         Driver(&[(2, "generic (PHYSICAL_PIN_MAP : string);\n")]),
         Entity,
     ),
-    // A byte that begins no token, and a string that is not closed.
+    // A byte that cannot begin a token, and a string that is not closed.
     (
         Driver(&[(4, "\u{7}use STD_1149_1_1994.all;\n")]),
         Lex(Byte(4)),
     ),
     (Driver(&[(16, "\"0 (BC_1,\n")]), Lex(OpenString(16))),
-    // A word instead of an integer, an integer of ten digits, and a clock of another kind.
+    // A word instead of an integer, an integer of ten digits, and a clock that is neither BOTH nor LOW.
     (
         Driver(&[(11, "attribute INSTRUCTION_LENGTH of DRV : entity is two;\n")]),
         Parse(Expected(11)),
@@ -48,7 +48,7 @@ static CHANGED: [(Source, Reading); 24] = [
         )]),
         Parse(Expected(10)),
     ),
-    // An attribute that btest does not read, and then a text in which such an attribute also lacks its semicolon.
+    // An attribute that btest does not read, and such an attribute without its semicolon.
     (
         Driver(&[(
             14,

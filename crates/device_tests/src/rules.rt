@@ -1,4 +1,4 @@
-//! Tests of texts that break a rule of devices, and of the devices of texts that do not.
+//! Tests of contents of BSDL texts that break a rule, and of the devices of contents that do not.
 use device_bench::{CaseFault, Change, draft_holds, orders_hold, rules_hold};
 
 static PORTS_AND_PINS: [(Change, (u32, u32)); 20] = [
@@ -40,14 +40,14 @@ static INSTRUCTIONS: [(Change, (u32, u32)); 20] = [
     (Change::Opcodes("SAMPLE (10), EXTEST (01)"), (6, 2)),
     (Change::Opcodes("SAMPLE (10), EXTEST (01, X0)"), (0, 0)),
     (Change::Opcodes("SAMPLE (10), BYPASS (10)"), (6, 3)),
-    // One correct code is enough, and X fits any bit.
+    // BYPASS needs only one correct code, and X matches any bit.
     (Change::Opcodes("SAMPLE (10), BYPASS (10, 11)"), (0, 0)),
     (Change::Opcodes("SAMPLE (10), BYPASS (1X)"), (0, 0)),
     (Change::Of2001("SAMPLE (10)"), (6, 2)),
     (Change::Of2001("PRELOAD (11), SAMPLE (10)"), (6, 1)),
     (Change::Of2001("PRELOAD (00), EXTEST (0X)"), (6, 2)),
     (Change::Of2001("PRELOAD (00), EXTEST (01)"), (0, 0)),
-    // SAMPLE does not preload if PRELOAD is listed.
+    // If PRELOAD is listed, the code of SAMPLE does not preload and may be all ones.
     (
         Change::Of2001("SAMPLE (11), PRELOAD (00), EXTEST (01)"),
         (0, 0),
@@ -134,7 +134,7 @@ fn boundary_entries(rt: HostRuntime) -> Result<(), CaseFault> {
     rules_hold(rt.alloc(), &ENTRIES)
 }
 
-// In each row, the changes break two consecutive rules, or two items of one rule. The first is reported.
+// In each row, the changes break two consecutive rules, or two items of one rule. The fault must name the first.
 static PORT_ORDER: [(&[Change], (u32, u32)); 7] = [
     (&[Change::Range(2, 1, true), Change::ScanOut("Q")], (2, 5)),
     (&[Change::ScanOut("Q"), Change::Clock("TDI")], (3, 3)),
@@ -200,7 +200,7 @@ fn instructions_come_before_entries(rt: HostRuntime) -> Result<(), CaseFault> {
 }
 
 static ENTRY_ORDER: [(Change, (u32, u32)); 9] = [
-    // The fault of a cell number that is too large is reported before the fault of a missing cell.
+    // The check for cell numbers that are too large comes before the check for missing cells.
     (
         Change::Entries(2, "1 (B, Q(1), output2, X), 5 (B, Q(2), output2, X)"),
         (8, 5),

@@ -1,4 +1,4 @@
-//! Tests which show that values of certain types may be moved to another thread and shared between threads.
+//! Tests that the public types of the BSDL crates are `Send` and `Sync`.
 use bsdl_lexer::{LexFault, Token, TokenKind};
 use bsdl_parser::{Attr, AttrValue, Attribute, Constant, Entity, ParseFault, Port, Range};
 use bsdl_strings::{Compliance, Entry, MapEntry, Opcode, PortWord, StringFault};

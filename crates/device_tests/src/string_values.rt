@@ -1,4 +1,4 @@
-//! Tests of the values of strings, and of strings that are not in their grammars.
+//! Tests of the values of strings in BSDL texts. For a string that is not in its grammar, they check the number of its first wrong entry.
 use board_defs::Symbol;
 use device_bench::{CaseFault, Grammar, strings_hold, symbols_hold};
 
@@ -11,7 +11,7 @@ static PIN_MAPS: [(&str, Result<&str, u32>); 18] = [
         "oe_n:A1, a:(A2,A3), y:(B1,B2), gnd:C1, vcc:C2, tdi:D1, tms:D2, tck:D3, tdo:D4",
         Ok("OE_N A1; A A2 A3; Y B1 B2; GND C1; VCC C2; TDI D1; TMS D2; TCK D3; TDO D4; "),
     ),
-    // One pin in parentheses, blanks around all parts, no blanks, and a pin that begins with `_`.
+    // One pin in parentheses, blanks around every token, no blanks, and a pin that begins with `_`.
     ("A:(1)", Ok("A 1; ")),
     ("\t A\t: ( 1 , 2 ) , B : 3 ", Ok("A 1 2; B 3; ")),
     ("A:(1,2),B:_3", Ok("A 1 2; B _3; ")),
@@ -29,7 +29,7 @@ static PIN_MAPS: [(&str, Result<&str, u32>); 18] = [
     ("A:1, B:2,", Err(3)),
     ("A:1, B:(1,2, C:3", Err(2)),
     ("A:1, B:()", Err(2)),
-    // A pin of two words, and a byte that belongs to no part.
+    // A pin of two words, and a line feed, which is not allowed in a string.
     ("A:1 2, B:3", Err(1)),
     ("A:1, B:2\n, C:3", Err(2)),
 ];
@@ -91,14 +91,14 @@ static COMPLIANCE: [(&str, Result<&str, u32>); 16] = [
     ("(A, B(1), C) (1X0, 010)", Ok("A B[1] C  1X0 010")),
     (" ( en(7) ) ( 0 , 1 ) ", Ok("EN[7]  0 1")),
     ("(A)(X)", Ok("A  X")),
-    // The first pair of parentheses is missing, not closed or empty, or contains a comma too many.
+    // The first pair of parentheses is missing, not closed or empty, or contains an extra comma or an index of ten digits.
     ("", Err(1)),
     ("A (1)", Err(1)),
     ("(A", Err(1)),
     ("() (1)", Err(1)),
     ("(A,) (1)", Err(1)),
     ("(A(1234567890)) (1)", Err(1)),
-    // The second pair of parentheses is missing, contains no codes, or is not the end.
+    // The second pair of parentheses is missing, does not contain a list of codes, or is not at the end.
     ("(A)", Err(2)),
     ("(A),(1)", Err(2)),
     ("(A) (2)", Err(2)),
