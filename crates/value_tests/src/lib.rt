@@ -1,5 +1,5 @@
-//! Tests which show that values of certain types may be moved to another thread and shared between threads, and that the text of each fault
-//! agrees with the fault's line of refusal.
+//! Tests that public types are `Send` and `Sync`, and that the message of each fault agrees with the line that btest writes to standard
+//! error for this fault.
 #![tactic(auto)]
 
 #[cfg(test)]

@@ -1,4 +1,4 @@
-//! Tests which show that values of certain types may be moved to another thread and shared between threads.
+//! Tests that public types are `Send` and `Sync`.
 use batch_diag::{BatchFault, Block, Verdict};
 use board_build::BoardFault;
 use board_defs::{

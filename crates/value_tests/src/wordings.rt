@@ -1,6 +1,6 @@
-// Compares the text of each fault with its line of refusal. A row has a fault, the start of its line, and the fault's text. The line is the
-// start, then the text, and in some tables then an end. The start names the file, since a fault does not have this name. The lines for lack
-// of memory and for a limit name no file.
+// Tests of the messages of faults and of their refusal lines, which btest writes to standard error. In most tables, a row has a fault, the
+// start of its refusal line, and its message. The refusal line is the start followed by the message, and in some tables by an end. The
+// start names the file, since the fault does not know this name. The lines for lack of memory and for a limit name no file.
 use batch_diag::BatchFault;
 use board_build::BoardFault;
 use board_defs::Spot;
@@ -21,10 +21,10 @@ use series_parts::LinkFault;
 use std::alloc::{AllocError, Global};
 use thiserror::Error;
 
-/// The reason why a table does not hold.
+/// The reason why a test fails.
 #[derive(Debug, Drop, Error)]
 pub enum Missed {
-    /// The fault of the row with this number, counted from 0, has another text or another line.
+    /// In the row with this number, counted from 0, the fault has another message or another refusal line.
     #[error("row {0} gives something else")]
     Row(usize),
     #[error("out of memory")]
@@ -54,7 +54,7 @@ const NAMES: Names<'static, 'static> = Names {
     bsdl: TextNames::One("d"),
 };
 
-// The names of a command with two BSDL texts.
+// The file names of a command with two BSDL texts.
 const TWO_TEXTS: Names<'static, 'static> = Names {
     log: "g",
     chain: "c",
@@ -343,7 +343,7 @@ static DEVICES: [(InputFault, &str, &str); 16] = [
         "",
         "out of memory",
     ),
-    // The command has one BSDL text, so a second one has no name.
+    // The command has one BSDL text, so the line does not name the second.
     (
         InputFault::Lex {
             text: 1,
@@ -354,7 +354,7 @@ static DEVICES: [(InputFault, &str, &str); 16] = [
     ),
 ];
 
-// The line names the text of the fault. A third text has no name.
+// The line names the text that has the fault. The command has two texts, so the line does not name a third.
 static SECOND_TEXTS: [(InputFault, &str, &str); 7] = [
     (
         InputFault::Lex {
@@ -414,7 +414,7 @@ static SECOND_TEXTS: [(InputFault, &str, &str); 7] = [
     ),
 ];
 
-// The line for missing rows ends with the number of rows that the log must have, which is not in the fault.
+// The refusal line for missing rows ends with the number of rows that the log must have. The fault does not have this number.
 static LOGS: [(LogFault, &str, &str, &str); 5] = [
     (LogFault::Digit(5), "g ", "line 5: digit not allowed", ""),
     (LogFault::Length(5), "g ", "line 5: wrong length", ""),
@@ -423,7 +423,7 @@ static LOGS: [(LogFault, &str, &str, &str); 5] = [
     (LogFault::Memory(AllocError), "", "out of memory", ""),
 ];
 
-// Only the line for missing rows names the board. Any other line has the number of a line of the text.
+// Only the refusal line for missing rows names the board. Any other line has the number of a line of the text.
 static BATCHES: [(BatchFault, &str, &str, &str); 8] = [
     (BatchFault::Start(5), "g ", "line 5: no board yet", ""),
     (BatchFault::Title(5), "g ", "line 5: board not allowed", ""),
@@ -475,8 +475,8 @@ static BATCHES: [(BatchFault, &str, &str, &str); 8] = [
     (BatchFault::Memory(AllocError), "", "out of memory", ""),
 ];
 
-// These faults have no line of refusal. Each of them becomes the second fault of its row. The text of the second fault is the third item of
-// the row, followed by the fourth.
+// Faults of strings have no refusal line of their own. A row has such a fault, the fault of a device that it becomes, and the message of
+// that fault in two parts. The second part is the message of the string's fault.
 static STRINGS: [(StringFault, DeviceFault, &str, &str); 2] = [
     (
         StringFault::At(3),
@@ -495,6 +495,7 @@ static STRINGS: [(StringFault, DeviceFault, &str, &str); 2] = [
     ),
 ];
 
+// Like `STRINGS`, but with faults of hexadecimal digits and the faults of a log that they become.
 static DIGITS: [(HexFault, LogFault, &str, &str); 2] = [
     (
         HexFault::Length,
@@ -510,12 +511,12 @@ static DIGITS: [(HexFault, LogFault, &str, &str); 2] = [
     ),
 ];
 
-// Returns an error with the number of the row, unless `holds` is true.
+// Returns `Ok` if `holds` is true, and an error with the number of the row otherwise.
 fn expect(row: usize, holds: bool) -> Result<(), Missed> {
     if holds { Ok(()) } else { Err(Missed::Row(row)) }
 }
 
-// Returns whether the bytes are these pieces in turn.
+// Returns whether the bytes are these pieces, joined in order.
 fn is_joined(alloc: Global, bytes: &[u8], pieces: &[&str]) -> Result<bool, AllocError> {
     let mut joined = String::new(alloc);
     for piece in pieces {
@@ -524,7 +525,7 @@ fn is_joined(alloc: Global, bytes: &[u8], pieces: &[&str]) -> Result<bool, Alloc
     Ok(bytes == joined.as_bytes())
 }
 
-// Checks a table of faults of texts that have these names.
+// Checks a table of faults in the texts of a command. `names` has the names of these texts.
 fn inputs_hold(
     alloc: Global,
     names: Names<'static, 'static>,
@@ -611,7 +612,7 @@ fn faults_of_digits(rt: HostRuntime) -> Result<(), Missed> {
     Ok(())
 }
 
-// Writes the line of refusal for a failed fetch of the text `g`.
+// Writes the refusal line for a failed fetch of the text `g`, for which the limit is 64 bytes.
 fn put_fetch_fault(fault: &FetchFault, notes: &mut MemSink) -> Result<(), PutFault> {
     match fault {
         FetchFault::Failed => put_not_read("g", notes),
@@ -620,7 +621,7 @@ fn put_fetch_fault(fault: &FetchFault, notes: &mut MemSink) -> Result<(), PutFau
     }
 }
 
-// The line for a text that is too long states the limit in bytes, which is not in the fault.
+// The refusal line for a text that is too long states the limit in bytes. The fault does not have this number.
 static FETCHES: [(FetchFault, &str, &str); 3] = [
     (FetchFault::Failed, "cannot read", "cannot read g\n"),
     (
