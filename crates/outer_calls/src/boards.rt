@@ -4,7 +4,7 @@ ghost use Rattle.board_defs.specs.Pins.{IsOnBoard, drive_at, guarded_at, receive
 
 use board_defs::{Board, Drive, PinRef};
 
-/// Returns whether the net is guarded.
+/// Returns whether the net is guarded. On a guarded net, only drivers that are always on may be enabled. The board must have the net.
 pub fn is_guarded(board: &Board, net: u32) -> bool
     requires { net < length board.now.nets }
     ensures { result ≡ guarded_at board.now net }
@@ -12,7 +12,7 @@ pub fn is_guarded(board: &Board, net: u32) -> bool
     board.is_guarded(net)
 }
 
-/// Returns how the pin's driver is enabled, or None if the pin is not a driver.
+/// Returns how the pin's driver is enabled, or None if the pin is not a driver. The board must have the pin.
 pub fn drive(board: &Board, pin: PinRef) -> Option<Drive>
     requires { IsOnBoard board.now pin }
     ensures { result ≡ drive_at board.now pin }
@@ -20,7 +20,8 @@ pub fn drive(board: &Board, pin: PinRef) -> Option<Drive>
     board.drive(pin)
 }
 
-/// Returns whether the pin is a switching driver.
+/// Returns whether the pin is a switching driver: its own cell enables it, and its net is unguarded and is pulled to the cell's disable
+/// value. The board must have the pin.
 pub fn switches(board: &Board, pin: PinRef) -> bool
     requires { IsOnBoard board.now pin }
     ensures { result ≡ switches_at board.now pin }
@@ -28,7 +29,7 @@ pub fn switches(board: &Board, pin: PinRef) -> bool
     board.switches(pin)
 }
 
-/// Returns whether the pin is a receiver.
+/// Returns whether the pin is a receiver. The board must have the pin.
 pub fn receives(board: &Board, pin: PinRef) -> bool
     requires { IsOnBoard board.now pin }
     ensures { result ≡ receives_at board.now pin }

@@ -1,5 +1,4 @@
-//! Calls of `diagnoser` for the diagnosis of one log, and calls of `batch_diag` for the blocks of a batch and their
-//! diagnoses.
+//! Calls of `diagnoser` and `batch_diag` that diagnose one log, read the blocks of a batch, and diagnose all blocks of a batch.
 ghost use Rattle.std.specs.Prelude.{◌≡◌, ◌*◌, ◌<◌, ◌≤◌, ◌^◌, length, All, IfOk, MatchResult};
 ghost use Rattle.answers.specs.Gives.{Gives};
 ghost use Rattle.board_defs.specs.Passes.{passes_of};
@@ -19,7 +18,8 @@ use scan_planner::Plan;
 use std::alloc::{AllocError, Global};
 use std::thread::Threads;
 
-/// Returns the single faults of the board that explain the log.
+/// Returns the single faults of the board that explain the log. The plan must be built from the board's passes. The log must have the
+/// plan's rows, each as long as a data scan. There must be 1 to 64 workers.
 pub fn diagnose<R: Threads + Sync, G: Gate>(
     rt: &R,
     alloc: Global,
@@ -41,7 +41,8 @@ pub fn diagnose<R: Threads + Sync, G: Gate>(
     diagnoser::diagnose(rt, alloc, board, plan, log, workers, gate)
 }
 
-/// Returns the blocks of a batch, or its first fault.
+/// Returns the blocks of a batch, or its first fault. The log of each block has `rows` rows of `len` bits. The text must be shorter than
+/// 2^32 bytes.
 pub fn blocks(alloc: Global, bytes: &[u8], rows: u64, len: u32) -> Result<Vec<Block>, BatchFault>
     requires { length bytes.now < 2 ^ 32 }
     ensures read { Gives batch_told (λ blocks. blocks.items)
@@ -52,7 +53,8 @@ pub fn blocks(alloc: Global, bytes: &[u8], rows: u64, len: u32) -> Result<Vec<Bl
     batch_diag::blocks(alloc, bytes, rows, len)
 }
 
-/// Returns a verdict on each block.
+/// Returns the verdict on each block, in the order of the blocks. The plan must be built from the board's passes. The log of each block
+/// must have the plan's rows, each as long as a data scan. There must be 1 to 64 workers.
 pub fn diagnose_all<R: Threads + Sync, G: Gate>(
     rt: &R,
     alloc: Global,
@@ -75,7 +77,7 @@ pub fn diagnose_all<R: Threads + Sync, G: Gate>(
     batch_diag::diagnose_all(rt, alloc, board, plan, blocks, workers, gate)
 }
 
-/// A batch has at most one text of its diagnoses.
+/// States that at most one text is the text of a batch's diagnoses, so neither the number of workers nor the gate changes this text.
 pub fn one_batch_text()
     ensures { OneBatchText }
 {

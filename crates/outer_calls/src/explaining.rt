@@ -1,4 +1,4 @@
-//! Calls of `fault_sim` about a log, the single faults that explain the log, and the places of single faults.
+//! Calls of `fault_sim` that compare a log with the expected log or with a single fault, and that number the single faults of a board.
 ghost use Rattle.std.specs.Prelude.{◌≡◌, ◌↔◌, ◌*◌, ◌<◌, length, All, IfOk, IsTrue, slice_get, Some};
 ghost use Rattle.board_defs.specs.declared.board.RawBoard.{RawBoard};
 ghost use Rattle.board_defs.specs.BoardRules.{IsBoard};
@@ -17,7 +17,8 @@ use response_log::Log;
 use scan_planner::Plan;
 use std::alloc::{AllocError, Global};
 
-/// Returns whether every compared bit of the log is the expected bit.
+/// Returns whether every compared bit of the log is the expected bit. The plan must be built from the board's passes. The log must have the
+/// plan's rows, each as long as a data scan.
 pub fn is_pass(board: &Board, plan: &Plan, log: &Log) -> bool
     requires plan { IsPlanOf board.now plan.now }
     requires passes { plan.now.passes ≡ passes_of board.now }
@@ -28,7 +29,8 @@ pub fn is_pass(board: &Board, plan: &Plan, log: &Log) -> bool
     fault_sim::is_pass(board, plan, log)
 }
 
-/// Returns whether the fault explains the log.
+/// Returns whether a single fault of the board explains the log: every run of the test with this fault alone gives the log's compared bits.
+/// The plan must be built from the board's passes. The log must have the plan's rows, each as long as a data scan.
 pub fn matches(board: &Board, plan: &Plan, fault: Single, log: &Log) -> bool
     requires plan { IsPlanOf board.now plan.now }
     requires passes { plan.now.passes ≡ passes_of board.now }
@@ -40,14 +42,15 @@ pub fn matches(board: &Board, plan: &Plan, fault: Single, log: &Log) -> bool
     fault_sim::matches(board, plan, fault, log)
 }
 
-/// Returns the number of places of the board's single faults.
+/// Returns the number of places: two for each covered net, two for each tested pin and four for each pair of covered nets.
 pub fn place_count(universe: &Universe) -> u64
     ensures { result ≡ place_count universe.now }
 {
     universe.places()
 }
 
-/// Returns the single fault at place `i`, or None if the place is the place of a short of two nets that are not paired.
+/// Returns the single fault at place `i` of the board for which the plan and the universe are built, or None if the place belongs to a
+/// short of two nets that no pass observes together. `i` must be below the number of places.
 pub fn fault_at(universe: &Universe, plan: &Plan, i: u64) -> Option<Single>
     requires { i < place_count universe.now }
     ensures { (board : RawBoard) → IsBoard board → IsPlanOf board plan.now
@@ -57,7 +60,8 @@ pub fn fault_at(universe: &Universe, plan: &Plan, i: u64) -> Option<Single>
     universe.at(plan, i)
 }
 
-/// Returns the suspects of the log: the places whose faults may explain it.
+/// Returns the suspects of the log: the places whose faults may explain it. The plan must be built from the board's passes, and the
+/// universe for this board. The log must have the plan's rows, each as long as a data scan.
 pub fn suspects(
     alloc: Global,
     board: &Board,

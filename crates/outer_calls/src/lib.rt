@@ -1,5 +1,5 @@
-//! Callers of the public calls that the program does not make. Each function here makes one such call and has the same contract as the
-//! call. If a clause of the call gets weaker, the proof of the function fails. All other clauses are needed by proofs of the program.
+//! Callers of the public functions that the program does not call. Each function here calls one of them and has the same contract. So if a
+//! clause of such a function gets weaker, a proof fails here. For any other public function, a proof of the program fails.
 #![tactic(auto)]
 
 pub mod boards;

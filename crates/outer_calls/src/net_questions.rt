@@ -1,4 +1,5 @@
-//! Calls of `net_classes` that answer its six questions about nets, pins and controls.
+//! Calls of `net_classes` that answer its six questions about the nets, pins and controls of a board. Each call needs the classes of this
+//! board.
 ghost use Rattle.std.specs.Prelude.{◌≡◌, ◌≢◌, ◌↔◌, ◌<◌, length, IsTrue, MatchOption};
 ghost use Rattle.board_defs.specs.Pins.{IsCell, IsOnBoard};
 ghost use Rattle.board_defs.specs.Coverage.{AreTogether, ArePaired, IsCovered, IsReason, IsTestedDriver, IsTestedReceiver, IsUseful};
@@ -9,7 +10,7 @@ ghost use Rattle.net_classes.specs.inner.Kept.{HoldsOfNet};
 use board_defs::{Board, Ctl, PinRef, Reason};
 use net_classes::Classes;
 
-/// Returns the first reason why the net is not covered, or None if the net is covered.
+/// Returns the first reason why the net is not covered, or None if some safe setting observes it. The board must have the net.
 pub fn reason(classes: &Classes, board: &Board, net: u32) -> Option<Reason>
     requires classes { AreClasses board.now classes.now }
     requires net { net < length board.now.nets }
@@ -21,7 +22,8 @@ pub fn reason(classes: &Classes, board: &Board, net: u32) -> Option<Reason>
     classes.reason(board, net)
 }
 
-/// Returns whether the control is useful.
+/// Returns whether the control is useful: the setting with this control alone is safe, and the control enables a driver that some safe
+/// setting tests. The board must have the control's cell.
 pub fn usable(classes: &Classes, board: &Board, c: Ctl) -> bool
     requires classes { AreClasses board.now classes.now }
     requires cell { IsCell board.now c }
@@ -31,7 +33,7 @@ pub fn usable(classes: &Classes, board: &Board, c: Ctl) -> bool
     classes.usable(board, c)
 }
 
-/// Returns whether the setting of the two controls is safe.
+/// Returns whether the setting with these two controls alone is safe. The board must have the cells of both controls.
 pub fn together(classes: &Classes, board: &Board, a: Ctl, b: Ctl) -> bool
     requires classes { AreClasses board.now classes.now }
     requires first { IsCell board.now a }
@@ -42,7 +44,7 @@ pub fn together(classes: &Classes, board: &Board, a: Ctl, b: Ctl) -> bool
     classes.together(board, a, b)
 }
 
-/// Returns whether some safe setting enables the driver and observes its net.
+/// Returns whether some safe setting enables the pin's driver and observes its net by this driver. The board must have the pin.
 pub fn driver_tested(classes: &Classes, board: &Board, pin: PinRef) -> bool
     requires classes { AreClasses board.now classes.now }
     requires pin { IsOnBoard board.now pin }
@@ -53,7 +55,7 @@ pub fn driver_tested(classes: &Classes, board: &Board, pin: PinRef) -> bool
     classes.driver_tested(board, pin)
 }
 
-/// Returns whether some safe setting observes the net of the receiver by a driver on another pin.
+/// Returns whether the pin is a receiver whose net some safe setting observes by a driver on another pin. The board must have the pin.
 pub fn receiver_tested(classes: &Classes, board: &Board, pin: PinRef) -> bool
     requires classes { AreClasses board.now classes.now }
     requires pin { IsOnBoard board.now pin }
@@ -64,7 +66,7 @@ pub fn receiver_tested(classes: &Classes, board: &Board, pin: PinRef) -> bool
     classes.receiver_tested(board, pin)
 }
 
-/// Returns whether the two nets differ and some safe setting observes both nets.
+/// Returns whether the two nets differ and one safe setting observes both. The board must have both nets.
 pub fn paired(classes: &Classes, board: &Board, a: u32, b: u32) -> bool
     requires classes { AreClasses board.now classes.now }
     requires first { a < length board.now.nets }

@@ -1,4 +1,4 @@
-//! Calls that make the plan of a board's test, or the board's walk, from the passes alone.
+//! Calls of `scan_planner` and `walk_test` that make the plan of a board's test, or its walking test, from a list of passes.
 ghost use Rattle.std.specs.Prelude.{◌≡◌, ◌<◌, ◌^◌, length, slice_get, IfOk};
 ghost use Rattle.board_defs.specs.Passes.{passes_of};
 ghost use Rattle.scan_planner.specs.Plans.{ArePlannable, FillsScan, IsPlanOf, IsRoom, scan_count};
@@ -11,7 +11,8 @@ use std::alloc::{AllocError, Global};
 use tap_defs::Shape;
 use walk_test::Walk;
 
-/// Returns the plan of the passes.
+/// Returns the plan of the passes. There must be fewer than 2^32 passes. Each pass must be safe, and each of its controls must control a
+/// driver of the board.
 pub fn plan(alloc: Global, board: &Board, passes: Vec<Setting>) -> Result<Plan, AllocError>
     requires few { length passes.items < 2 ^ 32 }
     requires plannable { ArePlannable board.now passes.items }
@@ -21,7 +22,8 @@ pub fn plan(alloc: Global, board: &Board, passes: Vec<Setting>) -> Result<Plan, 
     Plan::new(alloc, board, passes)
 }
 
-/// Fills the rows with scan `k` of the plan's test, and returns the shape of the scan.
+/// Fills the rows with scan `k` of the plan's test, counted from 0, and returns the shape of the scan. `k` must be below the number of
+/// scans, and each row must have room for an instruction scan and for a data scan.
 pub fn fill(
     board: &Board,
     plan: &Plan,
@@ -44,7 +46,8 @@ pub fn fill(
     plan.fill(board, k, tdi, tdo, mask)
 }
 
-/// Returns the walk of the board. Of the passes, the walk uses only the first.
+/// Returns the walking test of the board. It uses only the first of the passes, which must be the first pass of the board's test. If that
+/// test has no pass, the list must be empty.
 pub fn walk(alloc: Global, board: &Board, passes: &[Setting]) -> Result<Walk, AllocError>
     requires { slice_get passes.now 0 ≡ slice_get (passes_of board.now) 0 }
     ensures { IfOk result (λ walk. IsWalkOf board.now walk) }

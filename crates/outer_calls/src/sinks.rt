@@ -1,11 +1,12 @@
-//! The choice of a put that fails, as the sink in memory of `bt_base` makes it.
+//! A call of `bt_base` that makes a call of `put` on a sink in memory fail.
 ghost use Rattle.std.specs.Prelude.{◌≡◌, [], ◌∷◌, ◌++◌, OnOk, OnErr};
 ghost use Rattle.bt_base.specs.MemSink.{taken_of, room_of, puts_of, faults_of, failing_of};
 
 use bt_base::MemSink;
 use std::alloc::AllocError;
 
-/// Makes the put with this number fail, and take at most `taken` bytes. If memory is refused, nothing changes.
+/// Makes call number `call` of `put` fail and take at most `taken` bytes. Calls that were chosen before still fail, too. If memory runs
+/// out, nothing changes.
 pub fn fail_put(sink: &mut MemSink, call: u32, taken: u32) -> Result<(), AllocError>
     ensures ok { OnOk result
         (failing_of sink.new ≡ failing_of sink.old ++ record { call = call; taken = taken } ∷ []) }

@@ -1,11 +1,11 @@
-//! The choice of a fetch that fails, as the store in memory of `bt_base` makes it.
+//! A call of `bt_base` that makes a fetch from a store in memory fail.
 ghost use Rattle.std.specs.Prelude.{◌≡◌, ℕ, List, [], ◌∷◌, ◌++◌, OnOk, OnErr};
 ghost use Rattle.bt_base.specs.Memory.{held_text, failing_of, fetches_of, faults_of, asked_of};
 
 use bt_base::MemStore;
 use std::alloc::AllocError;
 
-/// Makes the fetch with this number fail. If memory is refused, nothing changes.
+/// Makes fetch number `call` fail. Fetches that were chosen before still fail, too. If memory runs out, nothing changes.
 pub fn fail_fetch(store: &mut MemStore, call: u32) -> Result<(), AllocError>
     ensures ok { OnOk result (failing_of store.new ≡ failing_of store.old ++ call ∷ []) }
     ensures err { OnErr result (failing_of store.new ≡ failing_of store.old) }
