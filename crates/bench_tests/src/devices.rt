@@ -1,5 +1,5 @@
-// Tests with cases whose expected result is wrong. Each function of the device bench must report such a case, whatever part of the result
-// is wrong.
+// Tests with cases whose expected result is wrong. Each helper of `device_bench` must report such a case, whatever part of the result is
+// wrong.
 use board_defs::Symbol;
 use bsdl_lexer::LexFault::{self, Byte};
 use bsdl_parser::ParseFault::Expected;
@@ -12,7 +12,7 @@ use device_bench::{
 };
 use std::alloc::Global;
 
-// Returns whether the answer reports this case and the result `shown`.
+// Returns whether the answer reports case `number` with the result `shown`.
 fn names(answer: &Result<(), CaseFault>, number: usize, shown: &str) -> bool {
     match answer {
         Err(CaseFault::Ended { case, found }) => *case == number && found.as_str() == shown,
@@ -20,7 +20,7 @@ fn names(answer: &Result<(), CaseFault>, number: usize, shown: &str) -> bool {
     }
 }
 
-// Returns whether the answer reports this case.
+// Returns whether the answer reports case `number`.
 fn names_case(answer: &Result<(), CaseFault>, number: usize) -> bool {
     match answer {
         Err(CaseFault::Ended { case, .. }) => *case == number,
@@ -28,7 +28,7 @@ fn names_case(answer: &Result<(), CaseFault>, number: usize) -> bool {
     }
 }
 
-// Returns an error with the number of the row as its case, unless `holds` is true.
+// Returns `Ok` if `holds` is true, and an error that reports case `row` otherwise.
 fn expect(alloc: Global, row: usize, holds: bool) -> Result<(), CaseFault> {
     if holds {
         return Ok(());
@@ -37,7 +37,7 @@ fn expect(alloc: Global, row: usize, holds: bool) -> Result<(), CaseFault> {
     Err(CaseFault::Ended { case: row, found })
 }
 
-// The part of a text's meaning that a table compares.
+// What a table compares for each text.
 #[derive(Clone, Copy)]
 enum Shown {
     Device,
@@ -83,8 +83,8 @@ const OTHER_ENTITY: &str =
      3 port TDO\n4 port TMS\n5 port TCK\n6 number 2\n7 text BYPASS (11), EXTEST (00), SAMPLE (10)\n8 text 01\n\
      9 number 3\n10 text 0 (BC_1, Q(1), OUTPUT2, X),1 (BC_1, Q(2), OUTPUT2, X)\n";
 
-// The part of the meaning that is compared, two texts with expected results, of which only the first is right, and the actual result of the
-// second text.
+// What the row compares, two texts with their expected results, and the actual result of the second text. Only the first expected result is
+// right.
 type Texts = (Shown, &'static [(Source, &'static str)], &'static str);
 
 static TEXTS: [Texts; 6] = [
@@ -165,7 +165,7 @@ fn wrong_lexings_are_noticed(rt: HostRuntime) -> Result<(), CaseFault> {
     Ok(())
 }
 
-// Two texts with expected readings, of which only the first is right, and the actual reading of the second text.
+// Two texts with their expected readings, and the actual reading of the second text. Only the first expected reading is right.
 type Readings = (&'static [(Source, Reading)], &'static str);
 
 static READINGS: [Readings; 3] = [
@@ -195,7 +195,7 @@ fn wrong_readings_are_noticed(rt: HostRuntime) -> Result<(), CaseFault> {
     Ok(())
 }
 
-// A grammar, two strings with expected results, of which only the first is right, and the actual result of the second string.
+// A grammar, two strings with their expected results, and the actual result of the second string. Only the first expected result is right.
 type Strings = (
     Grammar,
     &'static [(&'static str, Result<&'static str, u32>)],
@@ -274,7 +274,7 @@ fn wrong_symbols_are_noticed(rt: HostRuntime) -> Result<(), CaseFault> {
 
 const IN_DW: &str = "BUF2 DW Old 2 10 00 1 2 3 4 5 6 7 8 9 10 11";
 
-// Two packages with the expected lines of their devices. Only the first line is right.
+// Two packages with the expected devices, written as text. Only the first device is right.
 static PACKAGES: [(Option<&[u8]>, &str); 2] = [(None, IN_DW), (Some(b"FK"), IN_DW)];
 
 #[test]
@@ -291,8 +291,8 @@ fn wrong_packages_are_noticed(rt: HostRuntime) -> Result<(), CaseFault> {
     )
 }
 
-// Two changes with the rule and the item that each should break, of which only the first is right, and the rule and the item that the
-// second change breaks.
+// Two changes with the rule and the item that each should break, and the rule and the item that the second change actually breaks. Only the
+// first expectation is right.
 type Rules = (&'static [(Change, (u32, u32))], &'static str);
 
 static RULES: [Rules; 3] = [
@@ -333,8 +333,8 @@ fn wrong_orders_are_noticed(rt: HostRuntime) -> Result<(), CaseFault> {
     expect(rt.alloc(), 0, names(&answer, 1, "V2 item 5"))
 }
 
-// The number of the failing put, the number of bytes that the sink takes, and the last of these bytes. In each pair,
-// only the first case is right.
+// The number of the call of `put` that fails, the number of bytes that the sink then has, and the last of these bytes. In each pair, only
+// the first case is right.
 static CUTS: [[(u32, usize, &str); 2]; 2] = [
     [(4, 45, ""), (5, 1068, "")],
     [(4, 45, ""), (6, 2055, " 598\n")],

@@ -1,4 +1,4 @@
-//! Tests of the benches. `run_bench` and `device_bench` must report each kind of wrong answer.
+//! Tests of `run_bench` and `device_bench`, the helpers of other tests. The helpers must report every kind of wrong result.
 #![tactic(auto)]
 
 #[cfg(test)]

@@ -1,4 +1,4 @@
-// Tests with rows whose expected result is wrong. The bench of whole runs must report each such row, whatever part of the result is wrong.
+// Tests with rows whose expected result is wrong. `run_bench` must report each such row, whatever part of the result is wrong.
 use btest_cli::Status;
 use run_bench::Text::Plain;
 use run_bench::{
@@ -29,7 +29,7 @@ const FEW_SCANS: &str =
     "SIR 4 TDI (A) TDO (5) MASK (F);\nSDR 4 TDI (0);\nSIR 4 TDI (0) TDO (5) MASK (F);\n\
      SDR 4 TDI (4);\nSDR 4 TDI (8) TDO (1) MASK (3);\n";
 
-// A command line, the right ending of its run, the status of the run, and a wrong ending.
+// A command line, the expected result of its run, the status of the run, and a wrong expected result.
 type Wrong = (&'static str, Ending<'static>, Status, Ending<'static>);
 
 static WRONG: [Wrong; 21] = [
@@ -65,7 +65,7 @@ static WRONG: [Wrong; 21] = [
         Ending::NotPut("NETS 2 COVERED 2\n", ""),
     ),
     (COVER, Ending::Done, Status::Done, Ending::Usage),
-    // A wrong line of refusal, and no line of refusal.
+    // A wrong refusal line, and no refusal line.
     (
         WITHOUT_DRV,
         NO_DRV,
@@ -73,7 +73,7 @@ static WRONG: [Wrong; 21] = [
         Ending::Refused("c line 2: entity not given\n"),
     ),
     (WITHOUT_DRV, NO_DRV, Status::Refused, Ending::Refused("")),
-    // The right line of refusal with a wrong status.
+    // The right refusal line with a wrong status.
     (
         WITHOUT_DRV,
         NO_DRV,
@@ -100,7 +100,7 @@ static WRONG: [Wrong; 21] = [
     ("cover c", Ending::Usage, Status::Usage, Ending::Done),
 ];
 
-// Runs a command line as the row with this number, and compares the result with an ending.
+// Runs a command line. Returns an error for row `row` unless the result is as `ending` says.
 fn ends(
     rt: &(impl Threads + Sync),
     alloc: Global,
@@ -112,7 +112,7 @@ fn ends(
     bench.ends(rt, "endings", row, line, ending)
 }
 
-// Returns whether the answer reports this row of this table, with this status.
+// Returns whether `found` reports this row of this table, with this status.
 fn names(found: &Result<(), RowFault>, table: &str, row: usize, status: Status) -> bool {
     match found {
         Err(
@@ -171,7 +171,6 @@ fn are_named(
     Ok(())
 }
 
-// A run of `cover`.
 const COVER_RUN: Row = Row {
     texts: &[],
     line: COVER,
@@ -458,7 +457,7 @@ fn what_a_trouble_leaves_is_compared(rt: HostRuntime) -> Result<(), RowFault> {
     are_named(&rt, rt.alloc(), "troubles", &TROUBLES)
 }
 
-// The words are no command, and standard error takes only a part of the line.
+// A command line that is not valid. Standard error takes only a part of the usage line.
 const CUT: [(Trouble, Row); 1] = [(
     Trouble::Notes(3),
     Row {
@@ -538,7 +537,7 @@ fn each_line_of_sixty_devices_is_tried(rt: HostRuntime) -> Result<(), RowFault> 
     )
 }
 
-// Returns whether the answer reports this row as a row in which something other than the ending is wrong.
+// Returns whether `found` is the error that `expect` returns for this row of this table.
 fn is_other(found: &Result<(), RowFault>, table: &str, row: usize) -> bool {
     match found {
         Err(
