@@ -1,4 +1,4 @@
-// A run with texts and sinks in memory, and the bytes that the run writes.
+// A bench runs btest on texts in memory and keeps what the run writes.
 use crate::board::{HEAD, TAIL};
 use crate::devices::DEVICES;
 use crate::row::{Ending, Named, RowFault};
@@ -8,24 +8,24 @@ use btest_cli::{Status, run};
 use std::alloc::{AllocError, Global};
 use std::thread::Threads;
 
-// The line of refusal for words that are no command.
+// The line that btest writes to standard error for a command line that is not valid.
 const USAGE: &str =
     "usage: btest chain, device, cover, svf, diagnose, make, ident, walk, groups or batch\n";
 
-/// The texts that a run reads, and the sinks to which it writes.
+/// The texts that a run reads, and the sinks in memory that take its standard output and its standard error.
 #[derive(Drop)]
 pub struct Bench {
     alloc: Global,
-    /// The texts by their names.
+    /// The texts, each with its name.
     pub store: MemStore,
-    /// The text that the run wrote.
+    /// What the run wrote to standard output.
     pub out: MemSink,
-    /// The lines of refusal that the run wrote.
+    /// What the run wrote to standard error.
     pub notes: MemSink,
 }
 
 impl Bench {
-    /// Returns a bench with an empty store, whose sinks have room for the output of small boards.
+    /// Returns a bench without texts. Its sinks have room for the output of small boards.
     pub fn empty(alloc: Global) -> Result<Bench, AllocError> {
         Ok(Bench {
             alloc,
@@ -35,7 +35,7 @@ impl Bench {
         })
     }
 
-    /// Returns a bench with a chain file `c`, a net file `n`, and the texts of the worked devices under their names.
+    /// Returns a bench with the chain file `c`, the net file `n` and the BSDL texts of `DEVICES`.
     pub fn with_board(alloc: Global, chain: &str, nets: &str) -> Result<Bench, AllocError> {
         let mut bench = Bench::empty(alloc)?;
         for (name, text) in &DEVICES {
@@ -46,7 +46,8 @@ impl Bench {
         Ok(bench)
     }
 
-    /// Returns a bench with the texts of a generated board of 60 devices, `c`, `n` and `gen`. Its sink has room for the board's tests.
+    /// Returns a bench with the files of a generated board of 60 devices: the chain file `c`, the net file `n` and the BSDL text `gen`. The
+    /// sink has room for the board's tests.
     pub fn with_sixty_devices(alloc: Global) -> Result<Bench, AllocError> {
         let made = make(alloc, 60)?;
         let mut bench = Bench::empty(alloc)?;
@@ -65,12 +66,12 @@ impl Bench {
         Ok(())
     }
 
-    /// Runs a command line, whose words are separated by single spaces. An empty line has no words.
+    /// Runs a command line and returns its status. Single spaces separate the words. An empty line has no words.
     pub fn run(&mut self, rt: &(impl Threads + Sync), line: &str) -> Result<Status, AllocError> {
         self.run_watched(rt, line, &OpenGate)
     }
 
-    /// Runs a command line. The pieces of its work enter this gate.
+    /// Like `run`, but a command that shares its work among pieces calls `gate` before each item of each piece.
     pub fn run_watched(
         &mut self,
         rt: &(impl Threads + Sync),
@@ -86,7 +87,7 @@ impl Bench {
         Ok(self.run_words(rt, &words, gate))
     }
 
-    /// Runs the words of a command line. The pieces of its work enter this gate.
+    /// Like `run_watched`, but takes the words of the command line.
     pub fn run_words(
         &mut self,
         rt: &(impl Threads + Sync),
@@ -104,12 +105,12 @@ impl Bench {
         )
     }
 
-    // Returns whether the sinks took exactly these bytes.
+    // Returns whether the run wrote exactly these bytes to standard output and this text to standard error.
     fn took(&self, out: &[u8], notes: &str) -> bool {
         self.out.bytes() == out && self.notes.bytes() == notes.as_bytes()
     }
 
-    /// Runs a command line, and compares its status and the bytes that it writes with the row's ending.
+    /// Runs a command line. Returns an error with the table and the row unless the status and the written bytes are as `ending` says.
     pub fn ends(
         &mut self,
         rt: &(impl Threads + Sync),
@@ -122,7 +123,7 @@ impl Bench {
         self.expect(table, row, status, ending)
     }
 
-    /// Compares the status of a row's run, and the bytes that the run wrote, with the row's ending.
+    /// Returns an error with the table and the row unless `status` and the bytes that the run wrote are as `ending` says.
     pub fn expect(
         &self,
         table: &'static str,
@@ -137,7 +138,7 @@ impl Bench {
         }
     }
 
-    // Returns whether the run returned the status and wrote the bytes that `ending` requires.
+    // Returns whether `status` and the bytes that the run wrote are as `ending` says.
     fn has_ended(&self, status: Status, ending: Ending) -> Result<bool, AllocError> {
         match ending {
             Ending::Puts(text) => Ok(status == Status::Done && self.took(text.as_bytes(), "")),

@@ -1,15 +1,15 @@
-// A board of a driver and a receiver, with the scans of its test.
+// The files of a board with a driver and a receiver, and the scans of its test.
 
-/// The lines before the scans of an SVF text.
+/// The lines that btest writes before the scans of an SVF text.
 pub const HEAD: &str = "TRST OFF;\nENDIR IDLE;\nENDDR IDLE;\nSTATE RESET;\nSTATE IDLE;\n";
 
-/// The line after the scans.
+/// The line that btest writes after the scans.
 pub const TAIL: &str = "STATE RESET;\n";
 
-/// The chain file of a driver and a receiver.
+/// The chain file of the board.
 pub const CHAIN: &str = "DEVICE U1 DRV -\nDEVICE U2 RCV -\n";
 
-/// The net file of this board.
+/// The net file of the board. Each of its two nets joins an output of the driver to an input of the receiver.
 pub const NETS: &str = "NET N1 U1.1 U2.1\nNET N2 U1.2 U2.2\n";
 
 /// The scans of the board's test.

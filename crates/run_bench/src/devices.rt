@@ -1,4 +1,4 @@
-// The BSDL texts of the worked devices.
+// The BSDL texts of small devices for the tests.
 
 /// A driver with two outputs that are always on.
 pub const DRV: &str = r#"entity DRV is
@@ -104,7 +104,7 @@ attribute BOUNDARY_REGISTER of BI : entity is
 end BI;
 "#;
 
-/// A driver with four outputs and two controls.
+/// A driver with four outputs and two control cells.
 pub const TWO: &str = r#"entity TWO is
 generic (PHYSICAL_PIN_MAP : string := "P");
 port (TDI, TMS, TCK : in bit; TDO : out bit; Q : out bit_vector(1 to 4));
@@ -129,7 +129,7 @@ attribute BOUNDARY_REGISTER of TWO : entity is
 end TWO;
 "#;
 
-/// A driver with eight outputs and one control.
+/// A driver with eight outputs and one control cell.
 pub const OCT: &str = r#"entity OCT is
 generic (PHYSICAL_PIN_MAP : string := "P");
 port (TDI, TMS, TCK : in bit; TDO : out bit; Q : out bit_vector(1 to 8));
@@ -157,7 +157,7 @@ attribute BOUNDARY_REGISTER of OCT : entity is
 end OCT;
 "#;
 
-/// A driver with eight outputs and four controls.
+/// A driver with eight outputs and four control cells.
 pub const FOUR: &str = r#"entity FOUR is
 generic (PHYSICAL_PIN_MAP : string := "P");
 port (TDI, TMS, TCK : in bit; TDO : out bit; Q : out bit_vector(1 to 8));
@@ -208,7 +208,7 @@ attribute BOUNDARY_REGISTER of OD : entity is
 end OD;
 "#;
 
-/// A device of the 2001 edition with the outputs of `DRV`.
+/// Like `DRV`, but with a text of the 2001 edition of the standard (IEEE 1149.1-2001).
 pub const DRV1: &str = r#"entity DRV1 is
 generic (PHYSICAL_PIN_MAP : string := "P");
 port (TDI, TMS, TCK : in bit; TDO : out bit; Q : out bit_vector(1 to 2));
@@ -264,7 +264,7 @@ entity buf2 is
 end buf2;
 "#;
 
-/// The listing of BUF2.
+/// The listing that btest writes of the device `BUF2`.
 pub const BUF2_LISTING: &str = r#"ENTITY BUF2
 PACKAGE DW
 IR 2 SAMPLE 10 IDCODE -
@@ -285,7 +285,7 @@ CELL 4 INPUT OE_N X
 CELL 4 CONTROL * 1
 "#;
 
-/// The texts of the worked devices, with their names.
+/// The BSDL texts of all these devices, with the names that the texts have in a bench.
 pub const DEVICES: [(&str, &str); 11] = [
     ("drv", DRV),
     ("drv1", DRV1),

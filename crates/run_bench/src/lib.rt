@@ -1,5 +1,5 @@
-//! Runs with texts and sinks in memory, for the crates that test whole runs. A run is proved here once, and no contract says how it ends.
-//! So a test that compares how a run ends has little to prove.
+//! Helpers for the crates that test whole runs of btest, with texts and sinks in memory. The call of the program is proved here once, and
+//! no contract says how a run ends. So a test that calls a helper has little to prove.
 #![tactic(auto)]
 
 mod bench;

@@ -1,4 +1,4 @@
-// Tables of runs, with the result of each run.
+// Tables of runs with their expected results, and the functions that check them.
 use crate::bench::Bench;
 use crate::board::{CHAIN, NETS};
 use crate::text::Text;
@@ -8,50 +8,50 @@ use std::alloc::{AllocError, Global};
 use std::thread::Threads;
 use thiserror::Error;
 
-/// The result of a run: its status, the text that it writes, and its line of refusal. If a variant has no text or no line, the run writes
-/// none.
+/// The expected result of a run: its status, its output and its refusal line. The output goes to standard output, and the refusal line to
+/// standard error. If a variant has no output or no refusal line, the run must write none. For `Done` alone, the run may write anything.
 #[derive(Clone, Copy)]
 pub enum Ending<'a> {
-    /// This text was written.
+    /// The status is `Done`, and the output is this text.
     Puts(&'a str),
-    /// This large text was written.
+    /// Like `Puts`, but takes a `Text`, which can be large.
     PutsAll(Text),
-    /// The SVF text of these scans was written.
+    /// The status is `Done`, and the output is the SVF text with these scans.
     Scans(&'a str),
-    /// A text of this many bytes was written.
+    /// The status is `Done`, and the output has this many bytes.
     Long(usize),
-    /// The status is `Done`. The text that the run wrote is not compared.
+    /// The status is `Done`. Nothing else is compared.
     Done,
-    /// The texts were refused with this line.
+    /// The status is `Refused`, and this is the refusal line.
     Refused(&'a str),
-    /// A text was not read. The line of refusal is this line.
+    /// The status is `ReadFault`, and this is the refusal line.
     NotRead(&'a str),
-    /// The text was cut short. The sinks took these bytes of the text and of the line of refusal.
+    /// The status is `WriteFault`. These are the output that was written before the failure, and the refusal line or its written part.
     NotPut(&'a str, &'a str),
-    /// The words are no command.
+    /// The status is `Usage`, and the refusal line is the usage line.
     Usage,
 }
 
 /// The name of a text, and the text.
 pub type Named = (&'static str, Text);
 
-/// A run, with the result that it should have.
+/// A run with its expected result.
 #[derive(Clone, Copy)]
 pub struct Row {
     /// Texts that are added to the store. A text replaces another text of the same name.
     pub texts: &'static [Named],
-    /// The words, separated by spaces.
+    /// The command line. Single spaces separate its words.
     pub line: &'static str,
-    /// The result of the run.
+    /// The expected result of the run.
     pub ending: Ending<'static>,
 }
 
-/// A failure in a run.
+/// A failure that a row causes in its run.
 #[derive(Clone, Copy)]
 pub enum Trouble {
     /// The read with this number, counted from 1, fails.
     Read(u32),
-    /// The put with this number, counted from 1, fails after the sink has taken this many bytes of it.
+    /// The write to standard output with this number, counted from 1, fails after this many bytes.
     Put(u32, u32),
     /// Writes to standard output fail after it has taken this many bytes.
     Out(u32),
@@ -59,55 +59,55 @@ pub enum Trouble {
     Notes(u32),
 }
 
-/// A text, and the result of a run with it.
+/// A text, and the expected result of a run that reads it.
 pub type Run = (Text, Ending<'static>);
 
-/// A command line or a log, and the result of a run with it.
+/// A command line or a log, and the expected result of its run.
 pub type Line = (&'static str, Ending<'static>);
 
-/// A piece of a text, the text that replaces the piece, and the line of refusal without the text's name before it.
+/// A piece of a BSDL text, the text that replaces it, and the refusal line for the changed text, without the name of the text at its
+/// beginning and the line feed at its end.
 pub type Change = (&'static str, &'static str, &'static str);
 
-/// A chain file, a net file, the words after the names of these files, and the line of refusal.
+/// A chain file, a net file, the names of the BSDL texts, separated by spaces, and the refusal line.
 pub type Case = (&'static str, &'static str, &'static str, &'static str);
 
 /// The rows of a table.
 #[derive(Clone, Copy)]
 pub enum Rows {
-    /// Runs with their own texts.
+    /// Runs, each with texts of its own.
     Runs(&'static [Row]),
-    /// Runs in which something fails.
+    /// Runs, each with a read or a write that fails.
     Failing(&'static [(Trouble, Row)]),
-    /// Command lines that are run one by one.
+    /// Command lines. Each runs on the texts of the table.
     Lines(&'static [Line]),
-    /// A command line, and logs. The line is run once for each log, which is the text `g`.
+    /// A command line, and logs. The line runs once for each log, with the log as the text `g`.
     Logs(&'static str, &'static [Line]),
-    /// A command line, the name of a text, and texts. The line is run once for each text, under this name.
+    /// A command line, the name of a text, and texts. The line runs once for each text, which has this name.
     Texts(&'static str, &'static str, &'static [Run]),
-    /// The text of a device, and changes of this text. `device` refuses the text with each of the changes.
+    /// A BSDL text, and changes to it. The command `device` must refuse the text after each change.
     Devices(&'static str, &'static [Change]),
-    /// Boards. Each command on a board refuses the board with the same line.
+    /// Boards. Every command that reads a board must refuse the board with the same line.
     Boards(&'static [Case]),
-    /// Command lines that are no command. The first read would fail, so the rows show that nothing is read.
+    /// Command lines that are not valid. The first read would fail, so the rows show that btest reads nothing.
     NoCommands(&'static [&'static str]),
-    /// A command line, a word with a space before it, and numbers. For each number, the line is run with the word appended this many
-    /// times.
+    /// A command line, a word with a space before it, and counts. For each count, the line runs with the word appended this many times.
     Words(&'static str, &'static str, &'static [(usize, Ending<'static>)]),
 }
 
-/// Rows of one kind.
+/// Rows of one kind, with a name and common texts.
 #[derive(Clone, Copy)]
 pub struct Table {
     /// The name of the table, which says what the rows show.
     pub name: &'static str,
-    /// Texts for the store. First the store gets the files of a board of a driver and a receiver, and the worked devices. Then it gets
-    /// these texts. A text replaces an earlier text of the same name.
+    /// Texts that the runs can read, in addition to the chain file `c` and the net file `n` of a driver and a receiver and the BSDL texts
+    /// of `DEVICES`. A text replaces another text of the same name.
     pub texts: &'static [Named],
     /// The rows.
     pub rows: Rows,
 }
 
-/// The reason why a table does not hold.
+/// The reason why a check of a table fails.
 #[derive(Debug, Drop, Error)]
 pub enum RowFault {
     /// The first row whose run has an unexpected result.
@@ -120,7 +120,7 @@ pub enum RowFault {
         /// The status of the row's run.
         status: Status,
     },
-    /// A row in which something other than the ending is wrong.
+    /// A row in which a check by `expect` fails.
     #[error("{table}: row {row} gives something else")]
     Other {
         /// The name of the table.
@@ -138,7 +138,7 @@ impl From<AllocError> for RowFault {
     }
 }
 
-/// Returns an error that names the row, unless `holds` is true.
+/// Returns `Ok` if `holds` is true, and an error with the table and the row otherwise.
 pub fn expect(table: &'static str, row: usize, holds: bool) -> Result<(), RowFault> {
     if holds {
         Ok(())
@@ -147,7 +147,7 @@ pub fn expect(table: &'static str, row: usize, holds: bool) -> Result<(), RowFau
     }
 }
 
-/// Runs each row of each table.
+/// Runs each row of each table. Returns an error for the first row with an unexpected result.
 pub fn tables_hold(
     rt: &(impl Threads + Sync),
     alloc: Global,
@@ -262,7 +262,7 @@ fn texts_hold(
     Ok(())
 }
 
-// Checks that `device` refuses the text with each of these changes. The store has the changed text as `drv`.
+// Checks that the command `device` refuses the text after each of these changes. The changed text has the name `drv`.
 fn devices_hold(
     rt: &(impl Threads + Sync),
     alloc: Global,
@@ -280,8 +280,8 @@ fn devices_hold(
     Ok(())
 }
 
-// The commands on a board, with the names of the board's files. The log `g` is wrong, but a fault of the board is reported before a fault
-// of the log.
+// The commands that read a board, with the names of the chain file and the net file. The log `g` is faulty, too, but btest reports a fault
+// of the board first.
 const COMMANDS: [&str; 6] = [
     "cover c n",
     "svf c n",
@@ -350,7 +350,8 @@ fn words_hold(
     Ok(())
 }
 
-/// Runs each line with the texts of a generated board of 60 devices, `c`, `n` and `gen`, and with this log as the text `g`.
+/// Runs each line with the files of a generated board of 60 devices, `c`, `n` and `gen`, and with this log as the text `g`. Returns an
+/// error for the first line with an unexpected result.
 pub fn sixty_devices_hold(
     rt: &(impl Threads + Sync),
     alloc: Global,

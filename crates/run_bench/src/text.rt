@@ -1,4 +1,4 @@
-// The texts of rows. A large text is stored as the way to build it.
+// The texts of rows. A large text is built only when its row runs.
 use bt_base::MemStore;
 use std::alloc::{AllocError, Global};
 
@@ -9,15 +9,15 @@ pub enum Text {
     Plain(&'static str),
     /// These bytes, which may be invalid UTF-8.
     Bytes(&'static [u8]),
-    /// A text with replaced pieces. An edit is the old piece and its replacement.
+    /// A text with replaced pieces. Each edit has a piece and its replacement, and the edits apply in turn.
     Edited(&'static str, &'static [(&'static str, &'static str)]),
     /// A piece that is repeated this many times.
     Repeated(&'static str, usize),
-    /// The first lines of a text, as many as the number says, followed by another text.
+    /// A text, the number of first lines to take from it, and the text that follows these lines.
     Front(&'static str, usize, &'static str),
     /// The first lines of a text, followed by a head, a piece that is repeated, and a tail.
     Filled {
-        /// The text.
+        /// The text from which the lines are taken.
         of: &'static str,
         /// The number of lines to take from the text.
         lines: usize,
@@ -42,7 +42,7 @@ pub enum Text {
         /// The number after the last number.
         end: u32,
     },
-    /// The BSDL text of a device with this name and this many internal cells.
+    /// The BSDL text of a device with this name, whose only cells are this many internal cells.
     Cells(&'static str, u32),
 }
 
@@ -85,7 +85,7 @@ impl Text {
     }
 }
 
-// Returns the text with each of these pieces replaced.
+// Returns the text after these edits, which apply in turn.
 fn edited(alloc: Global, text: &str, edits: &[(&str, &str)]) -> Result<Vec<u8>, AllocError> {
     let mut edited = String::from_str(alloc, text)?;
     for (old, new) in edits {
@@ -94,7 +94,7 @@ fn edited(alloc: Global, text: &str, edits: &[(&str, &str)]) -> Result<Vec<u8>, 
     Ok(edited.into_bytes())
 }
 
-// Returns the first lines of a text, a head, a piece that is repeated, and a tail.
+// Returns the first `lines` lines of `of`, followed by the head, `count` copies of the piece, and the tail.
 fn filled(
     alloc: Global,
     of: &str,
@@ -127,7 +127,7 @@ fn numbered(
     Ok(text.into_bytes())
 }
 
-// The lines of a BSDL text before its first cell. `#` stands for the name, and `@` for the number of cells.
+// The beginning of a BSDL text, up to and including the entry of cell 0. `#` stands for the name, and `@` for the number of cells.
 const FRONT: &str = r#"entity # is
 generic (PHYSICAL_PIN_MAP : string := "P");
 port (TDI, TMS, TCK : in bit; TDO : out bit);
