@@ -1,4 +1,4 @@
-// Rows for texts that denote no board, with the first fault of the texts.
+// Rows for texts that do not describe a board, with the refusal line for the first fault of the texts.
 use run_bench::Text::{Edited, Numbered, Plain};
 use run_bench::{CHAIN, Case, Ending, NETS, Named, RCV1, RowFault, Rows, Run, Table, tables_hold};
 
@@ -35,14 +35,14 @@ const CHAINS: [Case; 10] = [
         "drv rcv",
         "c line 3: supply net not there\n",
     ),
-    // The case of letters in the names of nets matters.
+    // Names of nets are case-sensitive.
     (
         "DEVICE U1 DRV -\nDEVICE U2 RCV -\nSUPPLY n1",
         NETS,
         "drv rcv",
         "c line 3: supply net not there\n",
     ),
-    // A LINK line may not name a part of the chain either.
+    // A LINK line must not name a part of the chain, either.
     (
         "DEVICE U1 DRV -\nDEVICE U2 RCV -\nLINK U1 1 2",
         NETS,
@@ -125,7 +125,7 @@ const NET_FILES: [Case; 14] = [
     ),
 ];
 
-// The net file with a resistor between the driver and the receiver of the first net.
+// A net file in which the resistor R1 connects the driver's net N1A with the receiver's net N1B.
 const LINK_NETS: &str = "NET N1A U1.1 R1.1\nNET N1B R1.2 U2.1\nNET N2 U1.2 U2.2";
 
 const LINKS_AND_PULLS: [Case; 7] = [
@@ -135,7 +135,7 @@ const LINKS_AND_PULLS: [Case; 7] = [
         "drv rcv",
         "c line 3 word 4: link pin not in a net\n",
     ),
-    // Joined nets are one net. A net may not be pulled twice. If one of the joined nets is a supply, the whole net is a supply.
+    // Joined nets are one net. A net must not be pulled twice. If one of the joined nets is a supply, the whole net is a supply.
     (
         "DEVICE U1 DRV -\nDEVICE U2 RCV -\nLINK R1 1 2\nPULL N1A 1\nPULL N1B 1",
         LINK_NETS,
@@ -148,14 +148,14 @@ const LINKS_AND_PULLS: [Case; 7] = [
         "drv rcv",
         "n line 1 word 3: driver on a guarded net\n",
     ),
-    // A SUPPLY line that names no net is refused, even if there are LINK lines.
+    // btest refuses a SUPPLY line that names no net, even if there are LINK lines.
     (
         "DEVICE U1 DRV -\nDEVICE U2 RCV -\nLINK R1 1 2\nSUPPLY GND",
         LINK_NETS,
         "drv rcv",
         "c line 4: supply net not there\n",
     ),
-    // Without a LINK line, a pin may not be in two nets.
+    // Without a LINK line, a pin must not be in two nets.
     (
         CHAIN,
         "NET N1A U1.1 R1.1\nNET N1B R1.2 U2.1 U1.1\nNET N2 U1.2 U2.2",
@@ -176,7 +176,7 @@ const LINKS_AND_PULLS: [Case; 7] = [
     ),
 ];
 
-// A driver that is always on may not drive a net with a pin of the test port or with a compliance pin.
+// A driver that is always on must not drive a net with a pin of the test access port or with a pin that compliance patterns name.
 const GUARDED: [Case; 2] = [
     (
         CHAIN,

@@ -1,8 +1,9 @@
-// Rows for the command `cover`, which lists the nets, pins and pairs of nets that no safe setting tests.
+// Rows for the command `cover`, which lists the nets, pins and pairs of nets that no safe setting tests. A setting is a set of enabled
+// controls. A safe setting enables at most one driver of each net, among other rules.
 use run_bench::Text::{Edited, Numbered, Plain};
 use run_bench::{CHAIN, Ending, NETS, Named, RCV1, Row, RowFault, Rows, Run, Table, tables_hold};
 
-// If several reasons apply to a net, the first is reported.
+// If several reasons apply to a net, btest reports the first of SUPPLY, TESTPORT, DARK, NODRIVER, BLOCKED and NORECEIVER.
 const REASONS: [Row; 6] = [
     Row {
         texts: &[
@@ -71,7 +72,7 @@ const REASONS: [Row; 6] = [
     },
 ];
 
-// A name of up to 24 bytes is stored in its value. A longer name is stored in memory of its own.
+// A `Name` holds up to 24 bytes itself. A longer name has memory of its own.
 const LONG_NAMES: [Row; 1] = [Row {
     texts: &[
         (
@@ -98,9 +99,10 @@ const LONG_NAMES: [Row; 1] = [Row {
 
 const WITH_RAM: Named = ("n", Plain("NET N1 U1.1 U2.1 RAM.7\nNET N2 U1.2 U2.2"));
 
-// If a net has a pin of a part without a description, the net is dark.
+// btest reports a net as DARK if the net has a pin of a part without a description, since this part may drive the net. An INERT line says
+// that a part does not.
 const DARKENED: [Row; 5] = [
-    // The chain file gives only the length of U3, so U3 may drive the net.
+    // The chain file gives only the length of U3's instruction register, so U3 may drive the net.
     Row {
         texts: &[
             ("c", Plain("DEVICE U1 TS -\nDEVICE U2 RCV1 -\nBYPASS U3 2")),
@@ -109,7 +111,7 @@ const DARKENED: [Row; 5] = [
         line: "cover c n ts rcv1",
         ending: Ending::Puts("NETS 1 COVERED 0\nNET N DARK\n"),
     },
-    // The case of letters in the names of parts matters.
+    // Names of parts are case-sensitive.
     Row {
         texts: &[
             ("c", Plain("DEVICE U1 TS -\nDEVICE U2 RCV1 -")),
@@ -154,7 +156,7 @@ const DARKENED: [Row; 5] = [
     },
 ];
 
-// The list has the drivers, the receivers and the pairs that no safe setting tests.
+// The list has the drivers, the receivers and the pairs of nets that no safe setting tests.
 const UNTESTED: [Row; 5] = [
     Row {
         texts: &[
@@ -178,7 +180,7 @@ const UNTESTED: [Row; 5] = [
         line: "cover c n bi ts",
         ending: Ending::Puts("NETS 1 COVERED 1\nDRIVER U1.1\n"),
     },
-    // The only driver of the net is on the receiver's own pin.
+    // The receiver U1.1 is not tested, since the only driver of its net is on the same pin.
     Row {
         texts: &[
             ("c", Plain("DEVICE U1 BI -\nDEVICE U2 RCV1 -")),
@@ -270,8 +272,7 @@ const COVERED: [Row; 5] = [
         line: "cover c n drv rcv",
         ending: Ending::Puts("NETS 2 COVERED 2\n"),
     },
-    // The case of letters in the names of nets matters. A name may have a dot, and a number sign that is not its first character. A net
-    // may have no pins.
+    // Names of nets are case-sensitive. A name may have a dot, and a number sign that is not its first character. A net may have no pins.
     Row {
         texts: &[
             ("c", Plain(CHAIN)),
@@ -289,7 +290,7 @@ const COVERED: [Row; 5] = [
         line: "cover c n",
         ending: Ending::Puts("NETS 1 COVERED 0\nNET N NODRIVER\n"),
     },
-    // The case of letters in the names of entities, packages and pins does not matter.
+    // Names of entities, packages and pins are not case-sensitive.
     Row {
         texts: &[
             ("c", Plain("DEVICE U1 buf2 fk\nDEVICE U2 RCV1 -")),

@@ -1,4 +1,4 @@
-// A test which shows that the texts of every generated board denote a board.
+// A test that the files of every generated board describe a board.
 ghost use Rattle.std.specs.Prelude.{◌≤◌};
 
 use board_gen::make;
@@ -6,7 +6,7 @@ use btest_core::read_board;
 use run_bench::{RowFault, expect};
 use std::alloc::{AllocError, Global};
 
-// Returns whether the texts of the board with `number` devices denote a board.
+// Returns whether `read_board` accepts the files of the generated board with `number` devices. `number` must be from 1 to 255.
 fn is_board(alloc: Global, number: u32) -> Result<bool, AllocError>
     requires some { 1 ≤ number }
     requires few { number ≤ 255 }

@@ -1,4 +1,4 @@
-//! Tests of whole runs through the top call, for words, chains, devices and boards.
+//! Tests of whole runs of the commands `cover`, `svf` and `make`, and of the rules and limits of the files of a board.
 #![tactic(auto)]
 
 #[cfg(test)]

@@ -4,7 +4,7 @@ use run_bench::{Bench, CHAIN, Ending, NETS, RowFault, Text};
 use std::alloc::Global;
 use std::thread::Threads;
 
-// A file: the name of the table for its words, the name of its text, the command line that reads the text, and the line of refusal for
+// A kind of file: the name of the table for its words, the name of the text, the command line that reads the text, and the refusal line for
 // a word that is too long.
 #[derive(Drop)]
 struct File {
@@ -28,8 +28,8 @@ const NET_FILE: File = File {
     refusal: "n line 1: word not allowed\n",
 };
 
-// The text before the letters of a word, the largest number of letters, the text after the letters, and the result of a run with the
-// largest number of letters.
+// The text before the letters of a word, the maximum number of letters, the text after the letters, and the result of a run with the
+// maximum number of letters.
 type Long = (&'static str, usize, &'static str, Ending<'static>);
 
 const ONE_PART: Ending<'static> = Ending::Scans(
@@ -58,7 +58,7 @@ static CHAINS: [Long; 12] = [
     ("LINK R1 1 ", 255, "", NO_PART),
 ];
 
-// The name of a net, and the word for a pin, which has the part's name, a dot and the pin's name.
+// The name of a net, and the word for a pin. That word consists of the part's name, a dot and the pin's name.
 static NET_FILES: [Long; 2] = [
     (
         "NET ",
@@ -81,7 +81,7 @@ static NET_FILES: [Long; 2] = [
     ),
 ];
 
-// Runs the command line of the file with `count` letters between the head and the tail.
+// Runs the command line of the file. The text is `head`, `count` letters and `tail`.
 fn ends_with(
     rt: &(impl Threads + Sync),
     alloc: Global,
@@ -104,7 +104,7 @@ fn ends_with(
     bench.ends(rt, file.table, row, file.line, ending)
 }
 
-// For each word, runs the command line of the file with the largest number of letters, and then with one letter more.
+// For each word, runs the command line of the file with the maximum number of letters, and then with one letter more.
 fn words_have_a_limit(
     rt: &(impl Threads + Sync),
     alloc: Global,

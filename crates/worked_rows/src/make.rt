@@ -13,7 +13,7 @@ const SUMMARIES: [Line; 7] = [
         "make 7",
         Ending::Puts("DEVICES 7 NETS 232 COVERED 232 PASSES 7 SCANS 66 BYTES 26132\n"),
     ),
-    // This board has more controls than a machine word has bits.
+    // This board has 65 controls, more than a machine word has bits.
     (
         "make 13",
         Ending::Puts("DEVICES 13 NETS 424 COVERED 424 PASSES 13 SCANS 133 BYTES 96866\n"),

@@ -1,4 +1,4 @@
-// Rows for texts with two faults, of which the second comes right after the first in the order of refusals. The first fault is reported.
+// Rows for texts with two faults. btest checks for the second right after the first, and must report the first.
 use run_bench::Text::{Cells, Numbered, Plain};
 use run_bench::{
     CHAIN, Case, Ending, Line, NETS, Row, RowFault, Rows, Run, SCANS, Table, Text, tables_hold,
@@ -6,7 +6,7 @@ use run_bench::{
 
 // Faults of the files, of the BSDL texts, and of the parts of the chain.
 const FILES: [Case; 7] = [
-    // The chain file comes first, then the net file, and then the BSDL texts in the order of the words.
+    // btest checks the chain file first, then the net file, and then the BSDL texts in the order of the command line.
     ("NONE", "NETS N1", "bad", "c line 1: no statement\n"),
     (CHAIN, "NETS N1", "bad", "n line 1: no statement\n"),
     ("", NETS, "bad worse", "bad line 1: not in the grammar\n"),
@@ -82,7 +82,7 @@ const BOARDS: [Case; 10] = [
         "drv",
         "n line 2 word 3: driver on a guarded net\n",
     ),
-    // Each rule is applied to all lines before the next rule.
+    // btest applies each rule to all lines before it applies the next rule.
     (
         "SUPPLY N2\nDEVICE U1 DRV -\nDEVICE U2 DRV -",
         "NET N1 U1.1 U2.1\nNET N2 U1.2 U2.9",
@@ -91,7 +91,7 @@ const BOARDS: [Case; 10] = [
     ),
 ];
 
-// The order of the BSDL texts does not matter. Nor does a BSDL text that no part names.
+// The order of the BSDL texts does not matter, and a BSDL text that no part names changes nothing.
 const ANY_ORDER: [Line; 3] = [
     ("svf c n drv rcv", Ending::Scans(SCANS)),
     ("svf c n rcv drv", Ending::Scans(SCANS)),

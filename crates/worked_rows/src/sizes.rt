@@ -1,8 +1,8 @@
 // Tests on a board of realistic size: 60 devices with 1,928 nets and 4,620 boundary cells.
 use run_bench::{Ending, Line, RowFault, sixty_devices_hold};
 
-// The listing of the device. Cells 0 to 4 are controls. The cells of the outputs, of the inputs and of the bus follow. Each of the first
-// four controls enables eight outputs, and the fifth control enables the bus.
+// The listing of the device. Cells 0 to 4 are control cells. The cells of the outputs, of the inputs and of the bus follow. Each of the
+// first four control cells enables eight outputs, and the fifth enables the bus.
 const LISTING: &str = r#"ENTITY GEN
 PACKAGE P
 IR 2 SAMPLE 10 IDCODE -

@@ -1,4 +1,4 @@
-// Rows for the command `svf`, which writes the test of a board.
+// Rows for the command `svf`, which writes the test of a board as SVF text.
 use run_bench::Text::{Cells, Edited, Plain, Repeated};
 use run_bench::{
     BI, CHAIN, Ending, NETS, RCV1, Row, RowFault, Rows, SCANS, TS, Table, Trouble, tables_hold,
@@ -35,7 +35,7 @@ const CODES: [Row; 5] = [
              SDR 5 TDI (01);\nSDR 5 TDI (02) TDO (08) MASK (18);\nSDR 5 TDI (00) TDO (10) MASK (18);\n",
         ),
     },
-    // The pass of the always-on driver begins without a control, and then takes the control of the other driver.
+    // The pass for the always-on driver starts without a control, and then adds the control of the other driver.
     Row {
         texts: &[
             (
@@ -54,7 +54,7 @@ const CODES: [Row; 5] = [
 
 const BUS: &str = "DEVICE U1 TS -\nDEVICE U2 TS -\nDEVICE U3 RCV1 -";
 
-// The drivers of a net have their passes in the order of the net's pins. This order may differ from the order of the parts.
+// A net has a pass for each of its drivers, in the order of the net's pins. This order may differ from the order of the parts.
 const BUSES: [Row; 2] = [
     Row {
         texts: &[("c", Plain(BUS)), ("n", Plain("NET BUS U1.1 U2.1 U3.1"))],
@@ -145,7 +145,7 @@ const LINKED: [Row; 2] = [
         line: "svf c n drv rcv",
         ending: Ending::Scans(SCANS),
     },
-    // The case of letters in the names of pins does not matter.
+    // Names of pins are not case-sensitive.
     Row {
         texts: &[
             ("c", Plain("DEVICE U1 DRV -\nDEVICE U2 RCV -\nLINK R1 a B")),
@@ -160,7 +160,7 @@ const LINKED: [Row; 2] = [
 ];
 
 // Boards with a pass that tests two nets at once. The first board has a pass for A and D, and then a pass for B and C. On the second board,
-// A and C have one pass. The driver of A fits both drivers of C, and the pass takes the first of these two.
+// A and C have one pass. The driver of A can be enabled together with either driver of C, and the pass enables the first of these two.
 const TOGETHER: [Row; 2] = [
     Row {
         texts: &[
@@ -214,8 +214,8 @@ const TOGETHER: [Row; 2] = [
     },
 ];
 
-// Boards with controls that exclude each other. The first board enables the controls of cells 8 and 9, then 10 and 11, then 9 and 10. The
-// second board enables the control of cell 4, and then the control of cell 5.
+// Boards with controls that must not be enabled together. The passes of the first board enable the controls of cells 8 and 9, then of 10
+// and 11, and then of 9 and 10. The passes of the second board enable the control of cell 4, and then the control of cell 5.
 const APART: [Row; 2] = [
     Row {
         texts: &[
@@ -338,7 +338,7 @@ const SAFE: [Row; 4] = [
             "SIR 2 TDI (2) TDO (1) MASK (3);\nSDR 2 TDI (0);\nSIR 2 TDI (0) TDO (1) MASK (3);\n",
         ),
     },
-    // An open-drain driver holds its disable value.
+    // The cell of an open-drain driver holds the disable value and not the safe value.
     Row {
         texts: &[
             ("c", Plain("DEVICE U1 OWN -")),
@@ -355,14 +355,14 @@ const SAFE: [Row; 4] = [
 // The change that makes the safe value of a control enable its driver.
 const UNSAFE_CONTROL: (&str, &str) = ("*, control, 1)", "*, control, 0)");
 
-// The changes that make a receiver an open-drain output. Its cell disables it by 1 and has the safe value 0.
+// The changes that make a receiver an open-drain output. The value 1 of its cell disables it, and the safe value of the cell is 0.
 const OWN_CONTROL: [(&str, &str); 3] = [
     ("RCV1", "OWN"),
     ("D : in bit", "D : out bit"),
     ("D, input, X", "D, output2, 0, 0, 1, WEAK1"),
 ];
 
-// The cell of a bidirectional pin reads the net while another part drives it, but not while its own part drives it.
+// The cell of a bidirectional pin reads the net while another part drives the net, but not while its own part does.
 const BOTH_WAYS: [Row; 2] = [
     Row {
         texts: &[
@@ -435,7 +435,7 @@ const READERS: [Row; 3] = [
     },
 ];
 
-// Two devices with only internal cells. The limit on the bits of a scan is 65,535.
+// Two devices with only internal cells. A data scan may have at most 65,535 bits.
 const WIDE: [Row; 2] = [
     Row {
         texts: &[
@@ -459,7 +459,7 @@ const WIDE: [Row; 2] = [
     },
 ];
 
-// One device with only internal cells may have all 65,535 bits. A part without a description adds one bit.
+// One device with only internal cells may have all 65,535 bits. A part without a description adds one bit, its bypass register.
 const WIDEST: [Row; 2] = [
     Row {
         texts: &[
