@@ -1,11 +1,11 @@
 // Rows for the command `device`: texts that break a rule on the entries of the boundary-scan register.
 use run_bench::{BI, Change, DRV, RCV, RCV1, RowFault, Rows, Table, tables_hold};
 
-// The text from the number of the driver's cells to the second entry.
+// The part of `DRV` from the number of its cells to the beginning of the second entry.
 const TWO_CELLS: &str =
     "2;\nattribute BOUNDARY_REGISTER of DRV : entity is\n\"0 (BC_1, Q(1), output2, X),\" &\n\"1 (BC";
 
-// A BIDIR entry without a control, and entries with a control that may not have one.
+// A BIDIR entry without a control, and entries with a control that must not have one.
 const CONTROLS: [Change; 6] = [
     ("Q(2), output2, X", "Q(2), bidir, X", ": rule V10 item 2"),
     (
@@ -35,7 +35,7 @@ const CONTROLS: [Change; 6] = [
     ),
 ];
 
-// Two entries of one cell are driven.
+// One cell has two entries that say what its update latch drives.
 const DRIVEN_TWICE: [Change; 3] = [
     (
         TWO_CELLS,
@@ -54,7 +54,7 @@ const DRIVEN_TWICE: [Change; 3] = [
     ),
 ];
 
-// A BIDIR entry both reads and is driven.
+// A BIDIR entry says what its cell captures and what the update latch drives, so the cell may have neither an INPUT nor a CONTROL entry.
 const CELLS_OF_BOTH_WAYS: [Change; 2] = [
     (
         "control, 1)\"",
@@ -118,7 +118,7 @@ const CELLS: [Change; 19] = [
     ("Q(2), output2, X", "TDO, output2, X", ": rule V14 item 2"),
 ];
 
-// The text from the number of the receiver's cells to the second entry.
+// The part of `RCV` from the number of its cells to the beginning of the second entry.
 const TWO_READERS: &str =
     "2;\nattribute BOUNDARY_REGISTER of RCV : entity is\n\"0 (BC_1, D(1), input, X),\" &\n\"1 (BC";
 

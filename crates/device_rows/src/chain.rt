@@ -1,4 +1,4 @@
-// Rows for the command `chain`, for chain files and command lines that are refused, and for failed reads and writes.
+// Rows for the command `chain`: chains, faulty chain files, command lines that are not valid, and failed reads and writes.
 use run_bench::Text::{Bytes, Numbered, Plain, Repeated};
 use run_bench::{DRV, Ending, Line, Named, Row, RowFault, Rows, Run, Table, Trouble, tables_hold};
 
@@ -39,8 +39,8 @@ const CHAINS: [Row; 7] = [
             "SIR 2 TDI (3) TDO (1) MASK (3);\nSDR 9 TDI (0A5) TDO (14A) MASK (1FF);\n",
         ),
     },
-    // Names that differ in case belong to two parts. This command does not apply the rules of a board, so an INERT line may name a
-    // part of the chain.
+    // Names of parts are case-sensitive, so there are two parts. This command does not apply the rules of a board, so an INERT line may
+    // name a part of the chain.
     Row {
         texts: &[(
             "c",
@@ -96,7 +96,7 @@ const DESCRIBED: [Line; 4] = [
     ),
 ];
 
-// Statements with a word too few or too many, and statement names that are not in upper case.
+// Statements with too few or too many words, and statement names that are not in upper case.
 const NO_STATEMENTS: [Run; 17] = [
     (Plain("BYPASS U1"), NO_STATEMENT),
     (Plain("DEVICE U1 DRV - -"), NO_STATEMENT),
@@ -120,7 +120,7 @@ const NO_STATEMENTS: [Run; 17] = [
 
 const NO_STATEMENT: Ending<'static> = Ending::Refused("c line 1: no statement\n");
 
-// Words with a byte that is not allowed. The last rows have numbers that are not allowed, and names that are allowed.
+// Words with a byte that is not allowed. The last rows have numbers that are not allowed, and names with dots, which are allowed.
 const WORDS: [Run; 11] = [
     (Plain("BYPASS U\x7f 2"), NO_WORD),
     (Plain("BYPASS U\u{e9} 2"), NO_WORD),
@@ -129,7 +129,7 @@ const WORDS: [Run; 11] = [
     (Plain("LINK R.1 1 2"), NO_WORD),
     (Plain("LINK R1 1- 2"), NO_WORD),
     (Plain("LINK R1 1 2."), NO_WORD),
-    // The value of a pull is checked as a word first, and then as a number.
+    // btest checks the value of a pull as a word first, and then as a number.
     (Plain("PULL N \x01"), NO_WORD),
     (
         Plain("PULL N 01"),
@@ -148,7 +148,7 @@ const WORDS: [Run; 11] = [
 
 const NO_WORD: Ending<'static> = Ending::Refused("c line 1: word not allowed\n");
 
-// Chain files, each with the result of the run of `chain c`.
+// Chain files, each with the result of `chain c`.
 const FILES: [Run; 22] = [
     (Plain(""), Ending::Refused("c: no part in the chain\n")),
     (
@@ -283,7 +283,7 @@ const NO_COMMANDS: [&str; 28] = [
 ];
 
 const FAILING: [(Trouble, Row); 3] = [
-    // A failed read is not repeated, even if the words name the text twice.
+    // btest does not repeat a failed read, even if the command line names the text twice.
     (
         Trouble::Read(1),
         Row {
@@ -300,7 +300,7 @@ const FAILING: [(Trouble, Row); 3] = [
             ending: Ending::NotPut("TRST OFF;\nENDIR IDLE", "cannot write\n"),
         },
     ),
-    // The status stays Refused if only a part of the line is written.
+    // The status stays `Refused` if standard error takes only a part of the refusal line.
     (
         Trouble::Notes(5),
         Row {
@@ -316,7 +316,7 @@ const MANY_WORDS: [(usize, Ending<'static>); 2] = [
     (256, Ending::Usage),
 ];
 
-// The result of a run whose words name an empty text this many times. A run may read at most 255 BSDL texts.
+// The number of times that a command line names an empty BSDL text, and the result of the run. A run may read at most 255 BSDL texts.
 const MANY_TEXTS: [(usize, Ending<'static>); 2] = [
     (255, Ending::Refused("x line 1: not in the grammar\n")),
     (256, Ending::Usage),

@@ -20,7 +20,7 @@ const OUTSIDE: [Change; 11] = [
         "INSTRUCTION_LENGTH of DRV : entity is two",
         " line 11: not in the grammar",
     ),
-    // An integer has no point, no exponent, and no tenth digit.
+    // An integer must not have a point, an exponent or a tenth digit.
     (
         "INSTRUCTION_LENGTH of DRV : entity is 2",
         "INSTRUCTION_LENGTH of DRV : entity is 2.0",
@@ -36,7 +36,7 @@ const OUTSIDE: [Change; 11] = [
         "INSTRUCTION_LENGTH of DRV : entity is 0000000002",
         " line 11: not in the grammar",
     ),
-    // A clock has a number, and BOTH or LOW. A TAP attribute is true.
+    // A clock must have a number, and BOTH or LOW. A TAP attribute must be true.
     (
         "10.0e6, BOTH",
         "10.0e6, HIGH",
@@ -52,7 +52,7 @@ const OUTSIDE: [Change; 11] = [
     (LAST, "end DRV;\npackage X is\n", " line 19: package text"),
 ];
 
-// Texts of which a part is missing, and texts that are no entity.
+// Texts with a part missing, and texts that are not an entity.
 const PARTS: [Run; 6] = [
     (
         Front(DRV, 10, ""),

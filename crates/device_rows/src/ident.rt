@@ -3,7 +3,7 @@ use run_bench::Text::{Edited, Numbered, Plain};
 use run_bench::{Bench, DRV, Ending, Named, Row, RowFault, Rows, Table, Text, tables_hold};
 use std::alloc::{AllocError, Global};
 
-// A driver with an identification code. The four highest bits of the code, which are the version, are free.
+// A driver with an identification code. The four highest bits of the code, which are the version, are X.
 const CODED: Text = Edited(
     DRV,
     &[
@@ -15,7 +15,7 @@ const CODED: Text = Edited(
     ],
 );
 
-// A driver with a code in which all bits are free.
+// A driver with an identification code in which every bit is X.
 const FREE: Text = Edited(
     DRV,
     &[
@@ -127,7 +127,7 @@ fn compares_the_codes_of_the_parts(rt: HostRuntime) -> Result<(), RowFault> {
     tables_hold(&rt, rt.alloc(), &TABLES)
 }
 
-// Appends a field of 2,040 digits: the eight digits `digits`, 255 times. The lines of the field have 64 digits.
+// Appends a field of 2,040 digits: the eight digits `digits`, 255 times. Each full line of the field has 64 digits.
 fn push_field(text: &mut String, label: &str, digits: &str, end: &str) -> Result<(), AllocError> {
     text.push_str(label)?;
     for k in 0..255u32 {

@@ -1,4 +1,4 @@
-//! Tests of whole runs of the commands `device`, `chain` and `ident`, and of the words of each command.
+//! Tests of whole runs of the commands `device`, `chain` and `ident`, and of command lines that are not valid.
 #![tactic(auto)]
 
 #[cfg(test)]

@@ -16,13 +16,13 @@ const EDITION: [(&str, &str); 2] = [
 
 const DRV1_LISTING: Ending<'static> = Ending::PutsAll(Edited(DRV_LISTING, &EDITION));
 
-// The generic may follow the ports, in any case of letters.
+// The generic may follow the ports. Upper and lower case do not matter.
 const EXCHANGED: [(&str, &str); 1] = [(
     "generic (PHYSICAL_PIN_MAP : string := \"P\");\nport (TDI, TMS, TCK : in bit; TDO : out bit; Q : out bit_vector(1 to 2));\n",
     "port (tdi, tms, tck : in bit; tdo : out bit; q : out bit_vector(1 to 2));\ngeneric (physical_pin_map : string := \"p\");\n",
 )];
 
-// The driver with an attribute that a text may have at most once.
+// The driver with an optional attribute, TAP_SCAN_RESET.
 const RESET: [(&str, &str); 3] = [
     ("TDI, TMS, TCK : in bit", "TDI, TMS, TCK, TRST : in bit"),
     ("TCK:T4", "TCK:T4, TRST:T5"),
@@ -42,7 +42,7 @@ const COMPLYING: [(&str, &str); 1] = [(
     "attribute COMPLIANCE_PATTERNS of DRV : entity is \"(Q(2), TDI, Q(2)) (0X1, 111)\";\nend DRV;",
 )];
 
-// Texts that differ from the text of the driver in the clock or in the names of editions, and describe the same device.
+// Texts that differ from `DRV` in the clock or in the names of editions, and describe the same device.
 const OTHER_WORDS: [Run; 6] = [
     // The clock may stop at 0 only. Its frequency may be any number.
     (
@@ -50,7 +50,8 @@ const OTHER_WORDS: [Run; 6] = [
         SAME_LISTING,
     ),
     (Edited(DRV, &[("(10.0e6, BOTH)", "(1, LOW)")]), SAME_LISTING),
-    // A `use` item may name an old edition or anything else, and there may be none. COMPONENT_CONFORMANCE may name an old edition.
+    // A `use` statement may name an older edition or anything else, and a text needs no `use` statement. COMPONENT_CONFORMANCE may name an
+    // older edition.
     (
         Edited(
             DRV,
@@ -93,10 +94,10 @@ const OTHER_WORDS: [Run; 6] = [
     ),
 ];
 
-// Texts that differ from the text of the driver in codes or names that are not listed, and describe the same device.
+// Texts that differ from `DRV` in codes or names that the listing does not show, and describe the same device.
 const OTHER_CODES: [Run; 7] = [
     (Edited(DRV, &COMPLYING), SAME_LISTING),
-    // In an old text the first code of SAMPLE preloads, with X as 0. PRELOAD does not.
+    // In a text of an older edition, the first code of SAMPLE preloads, with X as 0. The code of PRELOAD does not preload.
     (
         Edited(DRV, &[("SAMPLE (10)", "PRELOAD (01), SAMPLE (1X, 00)")]),
         SAME_LISTING,
@@ -105,7 +106,7 @@ const OTHER_CODES: [Run; 7] = [
         Edited(DRV, &[("BYPASS (11), EXTEST (00), ", "")]),
         SAME_LISTING,
     ),
-    // One of the codes of BYPASS fits all ones, and one of the codes of EXTEST fits all zeros.
+    // One of the codes of BYPASS matches all ones, and one of the codes of EXTEST matches all zeros.
     (
         Edited(
             DRV,
@@ -137,7 +138,7 @@ const RCV1_LISTING: &str =
     "ENTITY RCV1\nPACKAGE P\nIR 2 SAMPLE 10 IDCODE -\nPORT TDI IN T1\nPORT TMS IN T3\nPORT TCK IN T4\n\
                             PORT TDO OUT T2\nPORT D IN 1\nCELL 0 INPUT D X\n";
 
-// Devices that differ from a worked device, and their listings.
+// Devices that differ from a device of `run_bench`, and their listings.
 const OTHER_DEVICES: [Run; 8] = [
     (
         Edited(DRV, &RESET),
@@ -180,7 +181,7 @@ const OTHER_DEVICES: [Run; 8] = [
         ),
         Ending::PutsAll(Edited(RCV1_LISTING, &[("INPUT D", "INPUT D(0)")])),
     ),
-    // The functions that the worked devices do not have.
+    // The cell functions that no device of `run_bench` has.
     (
         Edited(
             RCV,
@@ -201,7 +202,7 @@ const OTHER_DEVICES: [Run; 8] = [
              PORT D IN 1 2\nCELL 0 CLOCK D(1) 0\nCELL 1 OBSERVE_ONLY D(2) 1\nCELL 2 INTERNAL * X\nCELL 3 CONTROLR * 0\n",
         ),
     ),
-    // In a text of 2001 SAMPLE preloads if PRELOAD is not listed.
+    // In a text of 2001, the code of SAMPLE preloads if PRELOAD is not listed.
     (
         Edited(DRV1, &[("SAMPLE (10), PRELOAD (00)", "SAMPLE (0X)")]),
         DRV1_LISTING,
@@ -225,7 +226,7 @@ const LISTED: [Run; 7] = [
         },
         Ending::Puts(DRV_LISTING),
     ),
-    // The `use` statement alone or COMPONENT_CONFORMANCE alone says 2001, which is enough.
+    // Either the `use` statement or COMPONENT_CONFORMANCE alone selects the 2001 edition.
     (
         Edited(
             DRV1,

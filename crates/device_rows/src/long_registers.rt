@@ -1,5 +1,4 @@
-// Tests with a device that has the longest instruction register, and with a device whose register
-// has one bit more.
+// Tests with a device whose instruction register has the maximum length of 255 bits, and with a device whose register has one bit more.
 use crate::chain::LONGEST_REGISTER;
 use run_bench::{Bench, DRV, Ending, NETS, RowFault};
 use std::alloc::{AllocError, Global};
@@ -17,7 +16,7 @@ fn driver_of(alloc: Global, length: usize) -> Result<String, AllocError> {
     captured.as_str().replace(alloc, "INSTRUCTION_LENGTH of DRV : entity is 2;", &register)
 }
 
-// Returns a bench with a chain of this driver.
+// Returns a bench with a chain of one part, the driver with an instruction register of `length` bits.
 fn bench_of(alloc: Global, length: usize) -> Result<Bench, AllocError> {
     let mut bench = Bench::with_board(alloc, "DEVICE U1 DRV -\n", NETS)?;
     bench

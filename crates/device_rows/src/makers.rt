@@ -1,4 +1,4 @@
-// Rows for the command `device` with texts of kinds that makers write and btest refuses.
+// Rows for the command `device`: texts like those of some device manufacturers, which btest refuses.
 use run_bench::Text::Edited;
 use run_bench::{Change, DRV, DRV1, Ending, RowFault, Rows, Run, Table, tables_hold};
 
@@ -7,7 +7,7 @@ const FIRST: &str = "entity DRV is\n";
 const LAST: &str = "end DRV;\n";
 
 const AROUND_THE_ENTITY: [Change; 8] = [
-    // A byte order mark, and the byte that old systems put at the end of a file.
+    // A byte order mark, and the byte 1A (Ctrl-Z) that old systems write at the end of a file.
     (
         FIRST,
         "\u{feff}entity DRV is\n",
@@ -55,7 +55,7 @@ const WITHIN_THE_ENTITY: [Change; 5] = [
         " line 3: not in the grammar",
     ),
     ("Q : out", "Q : power_0", " line 3: not in the grammar"),
-    // A string that runs over the end of its line.
+    // A string that continues on the next line.
     ("T3, TCK", "T3,\nTCK", " line 6: string not closed"),
     (
         "use STD_1149_1_1994.all;\n",
@@ -86,7 +86,7 @@ const NAMES: [Change; 5] = [
 ];
 
 const CODES_AND_PINS: [Change; 3] = [
-    // Several identification codes.
+    // IDCODE_REGISTER with two identification codes.
     (
         LAST,
         "attribute IDCODE_REGISTER of DRV : entity is \"XXXX0001001000110100000000000111,\" &\n\
@@ -98,7 +98,7 @@ const CODES_AND_PINS: [Change; 3] = [
     ("TDI:T1", "TDI:(T1,T9)", ": rule V4 item 1"),
 ];
 
-// The code of EXTEST is not all zeros. The text says 2013, or 1994, and not 2001.
+// The text names the edition of 2013 or of 1994 and not that of 2001, but its code of EXTEST is not all zeros.
 const NOT_OF_2001: [Run; 2] = [
     (
         Edited(

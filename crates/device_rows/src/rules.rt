@@ -112,7 +112,7 @@ const ATTRIBUTES: [Change; 25] = [
         "constant P : PIN_MAP_STRING := \"\";\nend DRV;\n",
         ": rule V1 item 15",
     ),
-    // The lowest item of rule V1 is reported. It is reported before a fault of a string.
+    // btest reports the faulty item of rule V1 with the lowest number. It reports a fault of rule V1 before a fault of a string.
     (
         "attribute INSTRUCTION_CAPTURE of DRV : entity is \"01\";\nattribute BOUNDARY_LENGTH of DRV : entity is 2;\n",
         "",
@@ -159,8 +159,8 @@ const STRINGS: [Change; 11] = [
         "Q(2), outputx",
         ": BOUNDARY_REGISTER entry 2",
     ),
-    // The pin map is the first string, and the boundary register is the last. A fault of a string is reported before a fault of the rules
-    // V2 to V14.
+    // btest checks the string of the pin map first, and that of the boundary register last. It reports a fault of a string before a fault
+    // of the rules V2 to V14.
     ("(1,2)\"", "(1,2\"", ": PIN_MAP_STRING entry 5"),
     ("(1 to 2)", "(2 to 1)", ": rule V2 item 5"),
 ];
@@ -174,10 +174,10 @@ const PORTS_AND_PINS: [Change; 28] = [
     ("(1 to 2)", "(2 to 1)", ": rule V2 item 5"),
     ("(1 to 2)", "(1 downto 2)", ": rule V2 item 5"),
     ("(1 to 2)", "(0 to 65535)", ": rule V2 item 5"),
-    // With the four bits of the other ports there are 65,535 bits, which rule V2 allows. The pin map has too few pins for them.
+    // With the four bits of the other ports there are 65,535 port bits, which rule V2 allows. The pin map has too few pins for them.
     ("(1 to 2)", "(1 to 65531)", ": rule V4 item 5"),
     ("(1 to 2)", "(1 to 65532)", ": rule V2 item 5"),
-    // TDO has mode out, and the other TAP ports have mode in. No TAP port is a vector.
+    // TDO must have mode out, and the other TAP ports must have mode in. No TAP port may be a vector.
     ("TDO : out", "TDO : buffer", ": rule V3 item 3"),
     ("TDO : out", "TDO : inout", ": rule V3 item 3"),
     (
