@@ -36,7 +36,7 @@ const LOGS: [Line; 22] = [
         "BOARDS A\n1\n2\n",
         Ending::Refused("g line 1: no board yet\n"),
     ),
-    // An id may have any visible characters, but may not begin with `#`.
+    // An id may have any visible characters, but must not begin with `#`.
     ("BOARD !~A#.\n1\n2\n", Ending::Puts("BOARD !~A#.\nPASS\n")),
     (
         "BOARD A\x7f\n1\n2\n",
@@ -71,12 +71,12 @@ const LOGS: [Line; 22] = [
         "BOARD A\n1\nG\n2\n",
         Ending::Refused("g line 3: digit not allowed\n"),
     ),
-    // BOARD may not be the second word of a row.
+    // A row must not have BOARD as a second word.
     (
         "BOARD A\n1\n1 BOARD\n",
         Ending::Refused("g line 3: wrong length\n"),
     ),
-    // A wrong title is reported before any fault of a log.
+    // btest reports a wrong title before any fault of a log.
     (
         "BOARD A\n1\nBOARD\n1\n2\n",
         Ending::Refused("g line 3: board not allowed\n"),
@@ -215,7 +215,8 @@ fn each_block_is_diagnosed_by_itself(rt: HostRuntime) -> Result<(), RowFault> {
     tables_hold(&rt, rt.alloc(), &TABLES)
 }
 
-// Appends 10,000 blocks to `logs`, and the text of their diagnoses to `text`. In the log of every second block, a net stays at 0.
+// Appends 10,000 blocks to `logs`, and the expected output for them to `text`. In the log of every second block, net N1 reads 0 in each
+// row.
 fn push_blocks(logs: &mut String, text: &mut String) -> Result<(), AllocError> {
     for number in 0..5_000 {
         write!(logs, "BOARD A{number}\n1\n2\nBOARD B{number}\n0\n2\n")?;

@@ -33,7 +33,7 @@ const LOGS: [Line; 20] = [
     ("1\n\nG\n", Ending::Refused("g line 3: digit not allowed\n")),
     ("1\n2\n2\n", Ending::Refused("g line 3: row too many\n")),
     ("1\n2\nz z\n", Ending::Refused("g line 3: row too many\n")),
-    // The fault of a wrong row is reported before the fault of an extra row.
+    // btest reports the fault of a wrong row before the fault of an extra row.
     (
         "G\n2\n2\n",
         Ending::Refused("g line 1: digit not allowed\n"),
@@ -97,7 +97,7 @@ const WORKERS: [Row; 12] = [
         line: "diagnose 1 g c",
         ending: Ending::Usage,
     },
-    // A fault of the other texts is reported before a fault of the log. A failed read is reported before any fault.
+    // btest reports a fault of the other texts before a fault of the log. It reports a failed read before any fault.
     Row {
         texts: &[("g", Plain("zz\n")), ("c", Plain("DEVICE U1 DRV\n"))],
         line: "diagnose 1 g c n drv rcv",
@@ -161,7 +161,7 @@ const BUS_LOGS: [Line; 7] = [
         "01\n20\n01\n00\n",
         Ending::Refused("g line 2: digit not allowed\n"),
     ),
-    // If only one driver is open, the pass of this driver shows the fault.
+    // If the pin of only one driver is open, only the pass of this driver shows the fault.
     ("00\n00\n01\n00\n", Ending::Puts("FAIL 1\nopen U1.1 0\n")),
     ("01\n00\n01\n01\n", Ending::Puts("FAIL 1\nopen U2.1 1\n")),
     (
@@ -171,8 +171,8 @@ const BUS_LOGS: [Line; 7] = [
     ("00\n00\n01\n01\n", Ending::Puts("FAIL 0\n")),
 ];
 
-// The chain file of a board with two controls that exclude each other. The first pass observes A and X, and the second pass observes X and
-// B.
+// The chain file of a board with two controls that must not be enabled together. The first pass observes A and X, and the second pass
+// observes X and B.
 const APART: &str = "DEVICE U1 TWO -\nDEVICE U2 RCV -\nDEVICE U3 RCV -\n";
 
 const APART_NETS: &str = "NET A U1.1 U2.1\nNET X U1.2 U1.3 U2.2\nNET B U1.4 U3.1\n";
@@ -187,7 +187,7 @@ const APART_LOGS: [Line; 4] = [
         "000\n000\n000\n001\n009\n000\n",
         Ending::Puts("FAIL 1\nshort AND A X\n"),
     ),
-    // The nets A and B are wrong, but no single fault affects both, since they are not paired.
+    // The nets A and B are wrong. No single fault affects both, since no pass observes them together.
     ("000\n008\n000\n000\n008\n000\n", Ending::Puts("FAIL 0\n")),
 ];
 

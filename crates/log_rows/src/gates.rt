@@ -1,4 +1,5 @@
-// Tests with gates that watch how the pieces of a command share the work on logs.
+// Tests of how the pieces of `diagnose` and `batch` share the work on logs. A command with `w` workers cuts its work into `w` pieces.
+// Before each item of its work, a piece enters a gate with its own number and that of the item. The gates of this file watch these entries.
 use bt_base::Gate;
 use run_bench::{Bench, CHAIN, Ending, NETS, RowFault, expect};
 use std::alloc::{AllocError, Global};
@@ -6,10 +7,10 @@ use std::sync::atomic::Ordering::SeqCst;
 use std::sync::atomic::{AtomicBool, AtomicU64};
 use std::thread::Threads;
 
-// The number of times that an entry of a piece checks the other pieces before it stops waiting.
+// The number of times that a waiting piece checks the other pieces before it gives up.
 const TURNS: u32 = 100_000_000;
 
-// The largest number of pieces that a gate watches. A command has at most this many workers.
+// The maximum number of pieces that `Entries` records. A command has at most this many workers.
 const PIECES: u64 = 64;
 
 // Returns `count` counters, all 0.
@@ -21,17 +22,18 @@ fn counters(alloc: Global, count: u64) -> Result<Vec<AtomicU64>, AllocError> {
     Ok(counters)
 }
 
-// A gate that holds back the first entries of each piece. Entry `i` of a piece waits until every other piece has made its entry `i`.
+// A gate that keeps pieces in step. The first `held` entries of each piece wait: entry `i` of a piece waits until every other piece has
+// made its entry `i`.
 #[derive(Drop)]
 struct InStep {
     entries: Vec<AtomicU64>,
     held: u64,
-    // True after an entry has waited in vain. From then on, no entry waits.
+    // True once an entry has given up waiting, or a piece with an unexpected number has entered. From then on, no entry waits.
     late: AtomicBool,
 }
 
 impl InStep {
-    // Returns a gate for `pieces` pieces that holds the first `held` entries of each piece.
+    // Returns a gate for `pieces` pieces at which the first `held` entries of each piece wait.
     fn new(alloc: Global, pieces: u64, held: u64) -> Result<InStep, AllocError> {
         Ok(InStep {
             entries: counters(alloc, pieces)?,
@@ -45,7 +47,7 @@ impl InStep {
         self.entries.iter().all(|own| entries <= own.load(SeqCst))
     }
 
-    // Returns whether each piece has made all entries that the gate holds back, and no entry has waited in vain.
+    // Returns whether each piece has made at least `held` entries, and none of them gave up waiting.
     fn has_met(&self) -> bool {
         !self.late.load(SeqCst) && self.have_made(self.held)
     }
@@ -70,17 +72,17 @@ impl Gate for InStep {
     }
 }
 
-// The largest number of recorded entries of a piece.
+// The maximum number of recorded entries of a piece.
 const ENTRIES: u64 = 16;
 
-// A piece and an item with which the piece entered the gate.
+// The numbers of a piece and of the item with which it entered the gate.
 type Entry = (u64, u64);
 
 // A gate that records the items with which each piece enters, in order.
 #[derive(Drop)]
 struct Entries {
     counts: Vec<AtomicU64>,
-    // Entry `i` of piece `p` is item `p * ENTRIES + i` of the list.
+    // The item of entry `i` of piece `p` is at index `p * ENTRIES + i`.
     items: Vec<AtomicU64>,
     others: AtomicU64,
 }
@@ -94,12 +96,12 @@ impl Entries {
         })
     }
 
-    // Returns the counter of the entries of a piece.
+    // Returns the counter of a piece's entries, or `others` if the number of the piece is too large.
     fn count(&self, piece: u64) -> &AtomicU64 {
         self.counts.get(piece as usize).unwrap_or(&self.others)
     }
 
-    // Returns the cell for the item of entry `number` of a piece.
+    // Returns the place for the item of entry `number` of a piece, or `others` if one of the two numbers is too large.
     fn item(&self, piece: u64, number: u64) -> &AtomicU64 {
         if piece < PIECES && number < ENTRIES {
             let i = piece * ENTRIES + number;
@@ -120,7 +122,8 @@ impl Entries {
         Ok(all)
     }
 
-    // Returns whether the entries have these items in order, and each entry was made by the piece at the same place of `pieces`.
+    // Returns whether the entries, piece by piece, have these items in order. The piece of each entry must be at the same position of
+    // `pieces`.
     fn are_of(&self, alloc: Global, pieces: &[u64], items: &[u64]) -> Result<bool, AllocError> {
         let all = self.all(alloc)?;
         let are_equal = all.len() == items.len()
@@ -139,7 +142,7 @@ impl Gate for Entries {
     }
 }
 
-// Returns a bench with the texts of the board with a driver and a receiver, and with this log.
+// Returns a bench with the files of a board with a driver and a receiver, and with this log as the text `g`.
 fn bench_of(alloc: Global, log: &str) -> Result<Bench, AllocError> {
     let mut bench = Bench::with_board(alloc, CHAIN, NETS)?;
     bench.store.add("g", log.as_bytes())?;
@@ -155,11 +158,10 @@ const TWO_BOARDS: &str = "BOARD A\n1\n2\nBOARD B\n0\n2\n";
 
 const TWO_VERDICTS: &str = "BOARD A\nPASS\nBOARD B\nFAIL 3\nstuck N1 0\nopen U1.1 0\nopen U2.1 0\n";
 
-// A command line, the number of its workers, a log, the text that the command writes, and the number of entries that the gate holds back in
-// each piece.
+// A command line, the number of its workers, a log, the output of the command, and the number of entries of each piece that wait.
 type Step = (&'static str, u64, &'static str, &'static str, u64);
 
-// In these steps, the pieces work on their candidates or blocks at the same time: no piece goes on before all pieces are at work.
+// Commands whose pieces must work at the same time. Otherwise an entry waits in vain for the other pieces.
 const STEPS: [Step; 4] = [
     ("diagnose 2 g c n drv rcv", 2, STUCK, STUCK_TEXT, 5),
     ("batch 2 g c n drv rcv", 2, TWO_BOARDS, TWO_VERDICTS, 1),
@@ -194,12 +196,13 @@ const TEN_BOARDS: &str =
 const TEN_VERDICTS: &str =
     "BOARD A\nPASS\nBOARD B\nPASS\nBOARD C\nPASS\nBOARD D\nPASS\nBOARD E\nPASS\nBOARD F\nPASS\nBOARD G\nPASS\nBOARD H\nPASS\nBOARD I\nPASS\nBOARD J\nPASS\n";
 
-// The places of the candidates for the stuck net: the net itself, its two pins, and the shorts of its only pair.
+// The numbers of the single faults that `diagnose` tries for the log `STUCK`: the faults of the failing net, of its two pins, and of its
+// short with the other net.
 const CANDIDATES: [u64; 10] = [0, 1, 4, 5, 6, 7, 12, 13, 14, 15];
 
 const NUMBERS: [u64; 10] = [0, 1, 2, 3, 4, 5, 6, 7, 8, 9];
 
-// The number of workers as a word, and for each of ten items the piece that works on the item.
+// The number of workers as a word, and the number of the piece that works on each of ten items.
 type Share = (&'static str, [u64; 10]);
 
 // Piece `p` of `w` pieces works on the items `10 p / w..10 (p + 1) / w`. Both quotients are rounded down.
@@ -211,7 +214,7 @@ const SHARES: [Share; 5] = [
     ("64", [6, 12, 19, 25, 31, 38, 44, 51, 57, 63]),
 ];
 
-// A command with a number of workers, its log, the text that it writes, the items of all entries, and the piece that made each entry.
+// A command with a number of workers, its log, its output, the items of all entries, and the piece that made each entry.
 #[derive(Drop)]
 struct Shared {
     command: &'static str,
@@ -274,10 +277,11 @@ fn boards_are_shared(rt: HostRuntime) -> Result<(), RowFault> {
     Ok(())
 }
 
-// A log, the text that is written for it, the items with which the two pieces enter the gate, and the piece of each entry.
+// A log, the output for it, the items with which the two pieces enter the gate, and the piece of each entry.
 type Try = (&'static str, &'static str, &'static [u64], &'static [u64]);
 
-// If a log passes, the pieces try no candidate. If two nets differ, the pieces try the shorts of these two nets.
+// For a log that passes, the pieces try no single fault. If two nets differ from the expected log, the pieces try only the shorts of these
+// two nets.
 const TRIES: [Try; 2] = [
     ("1\n2\n", "PASS\n", &[], &[]),
     (

@@ -12,7 +12,7 @@ const DIGITS: [char; 16] = [
 ];
 
 // Returns the code of the net that a cell of a device reads, or 0 if the cell reads no net. Cells 37 to 68 read the outputs of the previous
-// device. For the first device, this is the last device. Cells 69 to 76 read the bus. The nets of the bus come after all other nets.
+// device. The device before the first is the last. Cells 69 to 76 read the bus. The nets of the bus come after all other nets.
 fn code_at(device: u32, cell: u32) -> u32 {
     let before = if device == 1 {
         DEVICES
@@ -29,7 +29,7 @@ fn code_at(device: u32, cell: u32) -> u32 {
     }
 }
 
-// Returns the bit that a cell reads in a row of a pass. Each net whose code is at most `silent` reads 0.
+// Returns the bit that a cell reads in a row of a pass. A net reads 0 if its code is at most `silent`.
 fn bit_at(device: u32, cell: u32, row: u32, silent: u32) -> u32 {
     let code = code_at(device, cell);
     if code <= silent {
@@ -62,8 +62,9 @@ fn row(alloc: Global, row: u32, silent: u32) -> Result<String, AllocError> {
     Ok(text)
 }
 
-// Returns the log. Each pass enables all outputs and the bus pins of one device, so all nets carry their codes in every pass. The bus cells
-// of this device are not compared, so the log may have the bits of the bus for them. So the rows of all passes are the same.
+// Returns the log in which the first `silent` nets read 0. Each pass enables the outputs of all devices and the bus pins of one device, so
+// all nets carry their codes in every pass. The bus cells of that device are not compared, so this log can have the bits of the bus for
+// them, too. Then the rows of all passes are equal.
 fn log(alloc: Global, silent: u32) -> Result<String, AllocError> {
     let mut rows = String::new(alloc);
     for number in 0..WIDTH {

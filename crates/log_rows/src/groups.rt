@@ -8,7 +8,7 @@ pub const WALK: &str = "DEVICE U1 DRV -\nDEVICE U2 DRV -\nDEVICE U3 RCV -\nDEVIC
 /// The net file of the board of `WALK`. It has three nets.
 pub const WALK_NETS: &str = "NET N1 U1.1 U3.1\nNET N2 U1.2 U3.2\nNET N3 U2.1 U4.1\n";
 
-/// The chain file of a board with an open-drain driver on a net that is pulled up. Two more nets each have a driver and a receiver.
+/// The chain file of a board with an open-drain driver on a net that is pulled up. Each of the other two nets has a driver and a receiver.
 pub const MIXED: &str =
     "DEVICE U1 OD -\nDEVICE U2 RCV1 -\nDEVICE U3 DRV -\nDEVICE U4 RCV -\nPULL N 1\n";
 
@@ -44,7 +44,7 @@ const THREE_NETS: [Line; 18] = [
         "# bits that are not compared\n\nf5\nf8\nf5\n",
         Ending::Puts("GROUPS 1\nGROUP 2\nNET N1\nNET N3\n"),
     ),
-    // Nets that never read 1 are not a group. Two nets that each read only the 1 of the other net are not a group either.
+    // Nets that never read 1 are not a group. Nor are two nets that each read only the 1 of the other net.
     ("00\n00\n00\n", Ending::Puts("GROUPS none\n")),
     ("01\n08\n04\n", Ending::Puts("GROUPS none\n")),
     ("05\n0D\n0D\n", Ending::Puts("GROUPS none\n")),
@@ -66,8 +66,8 @@ const THREE_NETS: [Line; 18] = [
         "04\n08\n01\n01\n",
         Ending::Refused("g line 4: row too many\n"),
     ),
-    // Within a line, a wrong length is reported before a wrong digit. The fault of a wrong line is reported before
-    // the fault of an extra row.
+    // Within a line, btest reports a wrong length before a wrong digit. It reports the fault of a wrong line before the fault of an extra
+    // row.
     ("G\n08\n01\n", Ending::Refused("g line 1: wrong length\n")),
     (
         "04\n0G\n01\n01\n",
@@ -79,7 +79,7 @@ const THREE_NETS: [Line; 18] = [
     ),
 ];
 
-// The net that is pulled up is not a walk net, and the bit of the cell that reads it is not compared.
+// The walking test does not observe the net that is pulled up, so it does not compare the cell that reads this net.
 const MIXED_LOGS: [Line; 4] = [
     (
         "03\n03\n",
@@ -143,7 +143,7 @@ const ROWS: [Row; 10] = [
         line: LINE,
         ending: Ending::Puts("GROUPS none\n"),
     },
-    // In a group, joined nets have the first of their names.
+    // A group lists joined nets by the first of their names.
     Row {
         texts: &[
             ("c", Plain(LINKED)),
@@ -162,7 +162,7 @@ const ROWS: [Row; 10] = [
         line: LINE,
         ending: Ending::Puts("GROUPS 0\n"),
     },
-    // If a board has no walk net or no pass, the log has no rows.
+    // If the walking test observes no net, its log has no rows.
     Row {
         texts: &[
             ("c", Plain(PULLED)),

@@ -1,5 +1,4 @@
-//! Tests of whole runs of the commands that make or read logs: `walk`, `diagnose`, `batch` and
-//! `groups`.
+//! Tests of whole runs of the commands that read logs, `diagnose`, `batch` and `groups`, and of `walk`, which writes the walking test.
 #![tactic(auto)]
 
 #[cfg(test)]

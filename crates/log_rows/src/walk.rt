@@ -15,7 +15,7 @@ const ROWS: [Row; 7] = [
              SDR 8 TDI (00) TDO (01) MASK (0D);\n",
         ),
     },
-    // A net with a switching driver is not a walk net.
+    // The walking test does not observe a net with a switching driver. The cell of such a driver both enables it and carries its data.
     Row {
         texts: &[("c", Plain(MIXED)), ("n", Plain(MIXED_NETS))],
         line: LINE,
@@ -24,14 +24,15 @@ const ROWS: [Row; 7] = [
              SDR 6 TDI (24);\nSDR 6 TDI (28) TDO (01) MASK (03);\nSDR 6 TDI (20) TDO (02) MASK (03);\n",
         ),
     },
-    // In the walking test, joined nets are one net. Since the board then has two nets, each code has a single 1, so these scans are also
-    // the scans of `svf`.
+    // In the walking test, joined nets are one net. The board then has two nets, and each of their codes has a single 1. So these scans are
+    // also the scans of `svf`.
     Row {
         texts: &[("c", Plain(LINKED)), ("n", Plain(LINKED_NETS))],
         line: LINE,
         ending: Ending::Scans(SCANS),
     },
-    // If there is a pass but no walk net, there is one quiet row. If there is no pass, there is no row.
+    // If the board has a pass but the walking test observes no net, the test has one data scan after EXTEST is selected. In this scan,
+    // every driver with a control is off. If the board has no pass, there is no such scan.
     Row {
         texts: &[("c", Plain(PULLED)), ("n", Plain(PULLED_NETS))],
         line: LINE,

@@ -2,17 +2,16 @@
 use run_bench::{Bench, Ending, RowFault, Text};
 use std::alloc::{AllocError, Global};
 
-// The number of driving parts, which is also the number of receiving parts and the number of pins of each part.
+// The number of driving parts. It is also the number of receiving parts, and the number of pins of each part.
 const PARTS: u32 = 64;
 
-// The number of digits in a row that belong to the cells of the drivers. These digits are left of the digits that belong to the cells of
-// the receivers.
+// The number of digits of a row for the cells of the drivers. The digits for the cells of the receivers follow on the right.
 const DRIVER_DIGITS: usize = 1024;
 
 const RECEIVER_DIGITS: usize = 1024;
 
-// The beginning of the BSDL text of a part, up to the first pin number. `%` stands for the mode of the pins, `@` for the function of the
-// cells, and `^` for the name of the part.
+// The beginning of the BSDL text of a device, up to and including the first pin number. `%` stands for the mode of the pins, `@` for the
+// function of the cells, and `^` for the name of the device.
 const FRONT: &str = r#"entity ^ is
 generic (PHYSICAL_PIN_MAP : string := "P");
 port (TDI, TMS, TCK : in bit; TDO : out bit; B : % bit_vector(1 to 64));
@@ -20,7 +19,7 @@ use STD_1149_1_1994.all;
 attribute PIN_MAP of ^ : entity is PHYSICAL_PIN_MAP;
 constant P : PIN_MAP_STRING := "TDI:T1, TDO:T2, TMS:T3, TCK:T4, B:(1"#;
 
-// The text between the pin numbers and the first cell.
+// The text after the pin numbers, up to and including the entry of cell 0.
 const MIDDLE: &str = r#")";
 attribute TAP_SCAN_IN of TDI : signal is true;
 attribute TAP_SCAN_OUT of TDO : signal is true;
@@ -33,7 +32,7 @@ attribute BOUNDARY_LENGTH of ^ : entity is 64;
 attribute BOUNDARY_REGISTER of ^ : entity is
 "0 (BC_1, B(1), @, X)"#;
 
-// Returns the text of a device with this name, mode and function.
+// Returns the BSDL text of a device with this name, this mode of its pins and this function of its cells.
 fn device(alloc: Global, name: &str, mode: &str, function: &str) -> Result<String, AllocError> {
     let mut text = String::from_str(alloc, FRONT)?;
     for pin in 2..=PARTS {
@@ -50,8 +49,8 @@ fn device(alloc: Global, name: &str, mode: &str, function: &str) -> Result<Strin
     moded.as_str().replace(alloc, '@', function)
 }
 
-// Returns the number of the net that joins pin `pin` of driving part `part` to pin `pin` of receiving part `part`. Pins and parts are
-// counted from 0.
+// Returns the number of the net that joins pin `pin` of driving part `part` to pin `pin` of receiving part `part`. All these numbers start
+// at 0.
 fn net_number(part: u32, pin: u32) -> u32 {
     part.saturating_mul(PARTS).saturating_add(pin)
 }
@@ -69,7 +68,7 @@ fn net_lines(alloc: Global) -> Result<String, AllocError> {
     Ok(nets)
 }
 
-// Returns the text that has `piece` for each part, with the part's number in it.
+// Returns the text that has `piece` for each part. The number of the part replaces each `#`.
 fn part_lines(piece: &'static str) -> Text {
     Text::Numbered {
         head: "",
@@ -85,7 +84,7 @@ fn chain_lines(alloc: Global) -> Result<Vec<u8>, AllocError> {
     Ok(chain)
 }
 
-// Returns a bench with the texts of the board and with this log.
+// Returns a bench with the files of the board, and with this log as the text `g`.
 fn bench_of(alloc: Global, log: &str) -> Result<Bench, AllocError> {
     let mut bench = Bench::empty(alloc)?;
     bench.store.add("c", &chain_lines(alloc)?)?;
@@ -127,8 +126,8 @@ fn all_nets_may_be_one_group(rt: HostRuntime) -> Result<(), RowFault> {
     bench.ends(&rt, "4,096 nets", 0, LINE, Ending::PutsAll(ONE_GROUP))
 }
 
-// Returns the row in which two consecutive nets of a receiver read 1, and all other nets read 0. `pin` is the first of the two pins and is
-// even. The last receiver is rightmost in the row. Within a receiver, the first pin is rightmost.
+// Returns the row in which the nets of pins `pin` and `pin + 1` of a receiver read 1, and all other nets read 0. `pin` must be even. The
+// last receiver is rightmost in the row. Within a receiver, the first pin is rightmost.
 fn pair_row(alloc: Global, part: u32, pin: u32) -> Result<String, AllocError> {
     let behind = PARTS.saturating_sub(part.saturating_add(1)) as usize * 16 + (pin / 4) as usize;
     let mut row = "0".repeat(
@@ -141,8 +140,8 @@ fn pair_row(alloc: Global, part: u32, pin: u32) -> Result<String, AllocError> {
     Ok(row)
 }
 
-// Appends to the log the two rows of two consecutive nets of driving part `part`. In both rows, both nets read 1. Appends to the text the
-// lines of the group of these two nets.
+// Appends to the log the rows of the two nets at pins `2 * half` and `2 * half + 1` of driving part `part`. In both rows, both nets read 1.
+// Appends to the text the lines of the group of these two nets.
 fn push_pair(
     alloc: Global,
     part: u32,
