@@ -14,13 +14,12 @@ pub struct Command {
     pub text: &'static str,
 }
 
-// The text of the board's test. With two nets each code has a single 1, so this is also the walking
-// test.
+// The SVF text of the board's test. It is also the text of the walking test, since each of the two codes has a single 1.
 const BOARD_TEST: &str = "TRST OFF;\nENDIR IDLE;\nENDDR IDLE;\nSTATE RESET;\nSTATE IDLE;\n\
      SIR 4 TDI (A) TDO (5) MASK (F);\nSDR 4 TDI (0);\nSIR 4 TDI (0) TDO (5) MASK (F);\n\
      SDR 4 TDI (4);\nSDR 4 TDI (8) TDO (1) MASK (3);\nSDR 4 TDI (0) TDO (2) MASK (3);\nSTATE RESET;\n";
 
-/// A run of each command.
+/// A successful run of each command.
 pub const COMMANDS: [Command; 10] = [
     Command {
         line: "chain c drv rcv",
@@ -78,14 +77,14 @@ pub const COMMANDS: [Command; 10] = [
     },
 ];
 
-/// Texts of logs for the board: a log of its test, a log of its walking test, and a batch.
+/// The texts of logs for the board: a log of its test, a log of its walking test, and a batch.
 pub const LOGS: [Named; 3] = [
     ("g", Plain("0\n2\n")),
     ("w", Plain("3\n3\n")),
     ("b", Plain("BOARD A\n1\n2\nBOARD B\n0\n2\n")),
 ];
 
-/// Returns a bench with the texts of all commands.
+/// Returns a bench with the texts that these runs read.
 pub fn bench_of(alloc: Global) -> Result<Bench, AllocError> {
     let mut bench = Bench::with_board(alloc, CHAIN, NETS)?;
     bench.add(&LOGS)?;

@@ -6,12 +6,12 @@ use run_bench::{Ending, Row, RowFault, Rows, Table, tables_hold};
 use std::alloc::Global;
 use std::thread::Threads;
 
-// The most bytes of a chain file, a net file or a BSDL text.
+// The maximum length of a chain file, a net file or a BSDL text, in bytes.
 const MOST: usize = 4_194_304;
 
 const MOST_OF_LOG: usize = 67_108_864;
 
-// Returns the limit on the bytes of the text with this name.
+// Returns the maximum length of the text with this name, in bytes.
 fn limit(name: &str) -> usize {
     if name == "g" || name == "w" || name == "b" {
         MOST_OF_LOG
@@ -20,7 +20,7 @@ fn limit(name: &str) -> usize {
     }
 }
 
-// Checks that a command refuses its text of this name if the text has one byte too many.
+// Checks that a command refuses the text `name` if it has one byte too many. The bytes of the text come from `blanks`.
 fn is_too_long(
     rt: &(impl Threads + Sync),
     alloc: Global,
@@ -35,7 +35,7 @@ fn is_too_long(
     bench.ends(rt, name, 0, line, Ending::Refused(&note))
 }
 
-// Checks that a command writes its output if its text of this name is filled with blanks up to the limit.
+// Checks that a command still writes its output if the text `name` is extended with blanks to its maximum length.
 fn may_be_as_long(
     rt: &(impl Threads + Sync),
     alloc: Global,

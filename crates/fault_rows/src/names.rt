@@ -1,4 +1,4 @@
-// Tests that the fault of each text is reported with the name of this text.
+// Tests that btest reports the fault of a text with the name of this text.
 use run_bench::Text::Plain;
 use run_bench::{Ending, Named, Row, RowFault, Rows, Table, tables_hold};
 
@@ -9,7 +9,7 @@ const LOGS: [Named; 3] = [
     ("b", Plain("BOARD A\n1\n2\n")),
 ];
 
-// A chain file, a net file and a BSDL text that are all wrong.
+// A faulty chain file, a faulty net file and a faulty BSDL text.
 const CHAIN: Named = ("c", Plain("DEVICE U1 DRV\n"));
 
 const NETS: Named = ("n", Plain("NETS N1 U1.1\n"));

@@ -4,8 +4,8 @@ use run_bench::{Ending, RowFault};
 use std::alloc::Global;
 use std::thread::Threads;
 
-// Checks a run in which read number `call`, counted from 1, fails. This is the read of the text `name`. The first write would fail, too,
-// but the run must end before it writes.
+// Checks a run in which read number `call`, counted from 1, fails. This must be the read of the text `name`. The first write would fail,
+// too, but the run must end before it.
 fn ends_at(
     rt: &(impl Threads + Sync),
     alloc: Global,

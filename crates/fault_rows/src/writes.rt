@@ -6,13 +6,12 @@ use run_bench::{Ending, Row, RowFault, Rows, Table, Trouble, tables_hold};
 use std::alloc::Global;
 use std::thread::Threads;
 
-// Returns the first `count` characters of a text, or the whole text if it is shorter.
+// Returns the first `count` bytes of a text, or the whole text if it is shorter.
 fn first(text: &str, count: usize) -> &str {
     text.get(..count).unwrap_or(text)
 }
 
-// Checks a run in which put number `call`, counted from 1, fails after taking `taken` bytes. The lines of the earlier puts have
-// `before` bytes.
+// Checks a run in which write number `call`, counted from 1, fails after `taken` bytes. The earlier writes have `before` bytes together.
 fn is_cut(
     rt: &(impl Threads + Sync),
     alloc: Global,
@@ -28,7 +27,7 @@ fn is_cut(
     bench.ends(rt, command.line, call as usize, command.line, ending)
 }
 
-// For each line of a command's text, checks a run in which the put of the line fails after it took `taken` bytes.
+// For each line of a command's output, checks a run in which the write of this line fails after `taken` bytes.
 fn is_cut_at_each(
     rt: &(impl Threads + Sync),
     alloc: Global,
@@ -45,7 +44,7 @@ fn is_cut_at_each(
     Ok(())
 }
 
-// If a write fails, the sink has the earlier lines, and perhaps a part of the line of this write.
+// If a write fails, the output has the lines of the earlier writes and perhaps the beginning of the next line.
 #[test]
 fn a_write_that_fails_leaves_the_lines_before_it(rt: HostRuntime) -> Result<(), RowFault> {
     for command in &COMMANDS {
@@ -67,7 +66,7 @@ fn puts_text(rt: &(impl Threads + Sync), alloc: Global, command: &Command) -> Re
     )
 }
 
-// The status stays the same if the notes take only a part of the line.
+// Checks that a failed write has the status `WriteFault` even if standard error takes only a part of the refusal line.
 fn has_short_note(
     rt: &(impl Threads + Sync),
     alloc: Global,
@@ -89,7 +88,7 @@ fn every_command_puts_its_text_or_keeps_its_status(rt: HostRuntime) -> Result<()
     Ok(())
 }
 
-// A batch without blocks has an empty text. The command puts this text to the sink, too.
+// The output for a batch without blocks is empty. The command writes this empty text, too, so this write can fail.
 const EMPTY: [(Trouble, Row); 1] = [(
     Trouble::Put(1, 0),
     Row {
