@@ -1,4 +1,4 @@
-// Tests of the verdicts on a batch of logs of the board `PAIR`, which has two nets. They use the calls that take a board and a plan.
+// Tests of `diagnose_all`, which returns a verdict on each log of a batch. The logs are of the board `PAIR`, which has two nets.
 ghost use Rattle.std.specs.Prelude.{◌≡◌, ◌≤◌};
 ghost use Rattle.board_defs.specs.Passes.{passes_of};
 ghost use Rattle.scan_planner.specs.Plans.{IsPlanOf};
@@ -13,7 +13,7 @@ use scan_planner::Plan;
 use std::alloc::{AllocError, Global};
 use std::thread::Threads;
 
-// The logs of three boards. The first log has the expected bits. A single fault explains the second log, and none explains the third.
+// The logs of three boards. The first log passes. One single fault explains the second log, and none explains the third.
 const BATCH: &str = "BOARD A\n1\n2\nBOARD B\n0\n0\nBOARD C\n1\n1\n";
 
 // The expected verdict on a log.
@@ -52,7 +52,7 @@ fn is_expected(alloc: Global, verdict: &Verdict, expected: &Expected) -> Result<
     Ok(true)
 }
 
-// Checks that this number of workers finds the expected verdicts.
+// Checks that this number of workers, from 1 to 64, finds the expected verdicts. The plan must be built from the board's passes.
 fn verdicts_hold(
     rt: &(impl Threads + Sync),
     alloc: Global,

@@ -1,4 +1,4 @@
-// Boards of the worked devices, with their plans and logs.
+// Small boards with devices of `run_bench`, and functions that return a board's plan and logs.
 ghost use Rattle.std.specs.Prelude.{◌≡◌, ◌*◌, ◌<◌, ◌^◌, length, All, IfOk, IsTrue};
 ghost use Rattle.board_defs.specs.Passes.{passes_of};
 ghost use Rattle.board_defs.specs.Pins.{data_bits, IsCell, IsOnBoard};
@@ -12,7 +12,7 @@ use run_bench::{DEVICES, RowFault};
 use scan_planner::Plan;
 use std::alloc::{AllocError, Global};
 
-/// The files of a board of worked devices.
+/// The files of a board whose devices are described in `run_bench::DEVICES`.
 #[derive(Clone, Copy)]
 pub struct Files {
     /// The chain file.
@@ -21,38 +21,38 @@ pub struct Files {
     pub nets: &'static str,
 }
 
-/// The files of a driver and a receiver with two nets.
+/// A board with a driver and a receiver, which two nets connect.
 pub const PAIR: Files = Files {
     chain: run_bench::CHAIN,
     nets: run_bench::NETS,
 };
 
-/// The files of a device with two groups of drivers. Both groups drive net X, so no pass enables both groups, and nets A and B are not
-/// paired.
+/// A board with a device that has two groups of drivers. Both groups drive net X, so no pass enables both groups, and no pass observes nets
+/// A and B together.
 pub const GROUPS: Files = Files {
     chain: "DEVICE U1 TWO -\nDEVICE U2 RCV -\nDEVICE U3 RCV -\n",
     nets: "NET A U1.1 U2.1\nNET X U1.2 U1.3 U2.2\nNET B U1.4 U3.1\n",
 };
 
-/// The files of a bidirectional pin and a three-state driver. Only the bidirectional pin receives.
+/// A board with a net that a bidirectional pin and a three-state driver share. Only the bidirectional pin receives.
 pub const BIDIR: Files = Files {
     chain: "DEVICE U1 BI -\nDEVICE U2 TS -\n",
     nets: "NET N U1.1 U2.1\n",
 };
 
-/// The files of an open-drain driver on a net that is pulled up.
+/// A board with an open-drain driver on a net that is pulled up.
 pub const PULLED: Files = Files {
     chain: "DEVICE U1 OD -\nDEVICE U2 RCV1 -\nPULL N 1\n",
     nets: "NET N U1.1 U2.1\n",
 };
 
-// The fault of a row whose texts do not denote a board.
+// The error for texts that are too long or do not describe a board or a log.
 pub const UNREAD: RowFault = RowFault::Other {
     table: "texts of a board",
     row: 0,
 };
 
-// Returns the BSDL texts of the worked devices.
+// Returns the BSDL texts of `DEVICES`.
 fn texts(alloc: Global) -> Result<Vec<Vec<u8>>, AllocError> {
     let mut texts = Vec::new(alloc);
     for (_, text) in &DEVICES {
@@ -73,7 +73,7 @@ fn are_short(texts: &[Vec<u8>]) -> bool
     texts.iter().all(is_short)
 }
 
-/// Returns the board of these files.
+/// Returns the board of these files, or `UNREAD` if they are too long or do not describe a board.
 pub fn board_of(alloc: Global, files: Files) -> Result<Board, RowFault> {
     let texts = texts(alloc)?;
     let (chain, nets) = (files.chain.as_bytes(), files.nets.as_bytes());
@@ -95,7 +95,7 @@ pub fn plan_of(alloc: Global, board: &Board) -> Result<Plan, AllocError>
     plan(alloc, board, &classes)
 }
 
-/// Returns the log of a board's test that the text contains.
+/// Returns the log that the text contains, or `UNREAD` if the text is too long or is not a log of this plan's test.
 pub fn log_of(alloc: Global, board: &Board, plan: &Plan, text: &str) -> Result<Log, RowFault>
     ensures rows { IfOk result (λ log. length log ≡ length plan.now.passes * plan.now.width) }
     ensures bits { IfOk result (λ log. All (λ row. length row ≡ data_bits board.now) log) }

@@ -1,4 +1,4 @@
-// Tests of the moves of a TAP controller (IEEE 1149.1-1990, section 5).
+// Tests of the state changes of a TAP controller (IEEE 1149.1-1990, section 5).
 use run_bench::{RowFault, expect};
 use tap_defs::TapState;
 use tap_defs::TapState::{
@@ -26,7 +26,7 @@ static MOVES: [(TapState, TapState, TapState); 16] = [
     (UpdateIR, RunTestIdle, SelectDR),
 ];
 
-// Returns the number of a state. Each state has a number of its own.
+// Returns a number that differs from the numbers of all other states.
 fn number(state: TapState) -> u32 {
     match state {
         TestLogicReset => 0,

@@ -1,4 +1,4 @@
-// Tests of `read_entity`, which reads the entity of a BSDL text. If the text has a fault, the fault names the text by its number.
+// Tests of `read_entity`, which reads the entity of a BSDL text. The fault of a text has the number that the caller gives the text.
 ghost use Rattle.std.specs.Prelude.{◌<◌, ◌^◌, length};
 
 use bsdl_lexer::LexFault;
@@ -16,13 +16,13 @@ enum Reading {
     Byte(u32),
     // A string begins on this line and is not closed.
     OpenString(u32),
-    // The first token that is not in the grammar is on this line.
+    // The first token that does not fit the grammar is on this line.
     Expected(u32),
-    // The text says on this line that it is a package text.
+    // The text is a package text, which begins on this line.
     Package(u32),
 }
 
-// A text, its number, and the result of reading it.
+// A text, the number that the caller gives it, and the result of reading it.
 type Read = (&'static str, u32, Reading);
 
 static READS: [Read; 8] = [
@@ -43,7 +43,7 @@ fn is_entity(entity: &Entity, name: &str, ports: usize, maps: usize) -> bool {
         && entity.constants.len() == maps
 }
 
-// Returns whether the fault is the expected fault. The fault must name the text by `number`.
+// Returns whether the fault is the expected fault, in the text with this number.
 fn is_fault(found: &InputFault, number: u32, reading: Reading) -> bool {
     match (found, reading) {
         (InputFault::Lex { text, fault }, Reading::Byte(line)) => {
@@ -62,7 +62,8 @@ fn is_fault(found: &InputFault, number: u32, reading: Reading) -> bool {
     }
 }
 
-// Returns whether reading the text gives the expected result. A fault must name the text by `number`.
+// Returns whether reading the text gives the expected result. A fault must have the text's number. The text must be shorter than 2^32
+// bytes.
 fn ends(alloc: Global, text: &[u8], number: u32, reading: Reading) -> bool
     requires { length text.now < 2 ^ 32 }
 {

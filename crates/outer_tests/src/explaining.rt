@@ -1,5 +1,5 @@
-// Tests of the places of single faults, and of the suspects and diagnoses of logs, on small boards. The answers are worked out by hand
-// from the model.
+// Tests of the single faults of small boards and of the diagnosis of logs. A universe numbers the possible single faults of a board, and
+// these numbers are the places of the faults. The answers are worked out by hand from the definitions.
 ghost use Rattle.std.specs.Prelude.{◌≡◌, ◌*◌, ◌≤◌, length, All, IfSome};
 ghost use Rattle.board_defs.specs.Faults.{IsSingle};
 ghost use Rattle.board_defs.specs.Passes.{passes_of};
@@ -23,9 +23,9 @@ use std::thread::Threads;
 struct Logged {
     // The text of the log.
     log: &'static str,
-    // True if the log has the expected bits.
+    // True if every compared bit of the log is the expected bit.
     passes: bool,
-    // The places of the suspects, the faults that may explain the log.
+    // The places of the suspects, which are the faults that may explain the log.
     suspects: &'static [u64],
     // The places of the faults that explain the log.
     explaining: &'static [u64],
@@ -58,7 +58,7 @@ const PAIR_PLACES: [&str; 16] = [
     "second 0 1",
 ];
 
-// The places of the shorts of the only pair of nets of the board `PAIR`.
+// The places of the shorts of the two nets of the board `PAIR`.
 const PAIR_SHORTS: &[u64] = &[12, 13, 14, 15];
 
 // The places of all faults of the first net of the board `PAIR`.
@@ -67,7 +67,7 @@ const OF_FIRST: &[u64] = &[0, 1, 4, 5, 6, 7, 12, 13, 14, 15];
 // The places of all faults of the second net of the board `PAIR`.
 const OF_SECOND: &[u64] = &[2, 3, 8, 9, 10, 11, 12, 13, 14, 15];
 
-// Logs of the board `PAIR`. In the two rows, the first net carries 1 and 0, and the second net carries 0 and 1.
+// Logs of the board `PAIR`. In the two rows, the first net carries 1 and then 0, and the second net carries 0 and then 1.
 const PAIR_LOGS: [Logged; 10] = [
     Logged {
         log: "1\n2\n",
@@ -214,8 +214,8 @@ const GROUPS_LOGS: [Logged; 7] = [
         suspects: OF_NET_0,
         explaining: &[23],
     },
-    // Only net 2 is wrong: it reads the bits of net 1. An AND short gives the same bits, since net 2 carries 1 in each row in which net 1
-    // carries 1.
+    // Only net 2 is wrong: its receiver reads the bits of net 1. An AND short gives the same bits, since net 2 carries 1 in each row in
+    // which net 1 carries 1.
     Logged {
         log: "004\n008\n000\n000\n009\n000\n",
         passes: false,
@@ -284,7 +284,8 @@ static BOARDS: [Rows; 4] = [
     },
 ];
 
-// A board with the plan of its test and its universe of faults.
+// A board, the plan of its test, and the universe of its single faults. The functions of this file that take it require a plan that is
+// built from the board's passes and a universe of this board. Each log must have the plan's rows, each as long as a data scan.
 #[derive(Clone, Copy)]
 struct Tested<'a> {
     board: &'a Board,
@@ -316,7 +317,7 @@ pub fn shown(alloc: Global, fault: Option<Single>) -> Result<String, AllocError>
     }
 }
 
-// Returns the fault at a place, if there is one.
+// Returns the fault at a place, or `None` if the place has no fault or is too large.
 #[tactic(auto, using(fault_sim::proofs::OrderLemmas::place_single))]
 fn fault_at(tested: Tested<'_>, place: u64) -> Option<Single>
     requires plan { IsPlanOf tested.board.now tested.plan.now }
@@ -331,7 +332,7 @@ fn fault_at(tested: Tested<'_>, place: u64) -> Option<Single>
     tested.universe.at(tested.plan, place)
 }
 
-// Returns whether the faults at the board's places, in order, are these faults.
+// Returns whether the faults at the board's places, in order, are these faults. They are written as `shown` writes them.
 fn has_places(alloc: Global, tested: Tested<'_>, places: &[&str]) -> Result<bool, AllocError>
     requires plan { IsPlanOf tested.board.now tested.plan.now }
     requires passes { tested.plan.now.passes ≡ passes_of tested.board.now }
@@ -349,12 +350,12 @@ fn has_places(alloc: Global, tested: Tested<'_>, places: &[&str]) -> Result<bool
     Ok(true)
 }
 
-// Returns whether a list has this number.
+// Returns whether the list contains this number.
 fn has(list: &[u64], number: u64) -> bool {
     list.iter().any(|one| *one == number)
 }
 
-// Returns whether the fault at a place explains a log. Returns `None` if `matches` and `matches_by` disagree. `nets` has the nets that
+// Returns whether the fault at a place explains a log. Returns `None` if `matches` and `matches_by` disagree. `nets` must be the nets that
 // differ in the log.
 fn explains(tested: Tested<'_>, log: &Log, nets: &[u32], place: u64) -> Option<bool>
     requires plan { IsPlanOf tested.board.now tested.plan.now }
@@ -376,7 +377,7 @@ fn explains(tested: Tested<'_>, log: &Log, nets: &[u32], place: u64) -> Option<b
     }
 }
 
-// Returns whether the faults at these places explain a log, and no other fault does.
+// Returns whether the faults at these places explain a log, and no other fault does. `nets` must be the nets that differ in the log.
 fn only_these_explain(tested: Tested<'_>, log: &Log, nets: &[u32], places: &[u64]) -> bool
     requires plan { IsPlanOf tested.board.now tested.plan.now }
     requires passes { tested.plan.now.passes ≡ passes_of tested.board.now }
@@ -425,7 +426,7 @@ fn suspects_are(
     Ok(are_places(&suspects, places))
 }
 
-// Returns whether the faults are the faults at these places.
+// Returns whether the faults are the faults at these places. `words` has the fault at each place, as `shown` writes it.
 fn are_faults(
     alloc: Global,
     faults: &[Single],
@@ -444,7 +445,7 @@ fn are_faults(
     Ok(true)
 }
 
-// Returns whether a diagnosis with this number of workers finds the faults at these places.
+// Returns whether `diagnose` finds the faults at these places with this number of workers, from 1 to 64.
 fn diagnosis_is(
     rt: &(impl Threads + Sync),
     alloc: Global,
@@ -466,7 +467,7 @@ fn diagnosis_is(
     are_faults(alloc, &faults, places, words)
 }
 
-// Returns whether a diagnosis with three workers finds the faults at these places. `nets` has the nets that differ in the log.
+// Returns whether `diagnose_in` finds the faults at these places with three workers. `nets` must be the nets that differ in the log.
 fn own_diagnosis_is(
     rt: &(impl Threads + Sync),
     alloc: Global,
@@ -494,7 +495,7 @@ fn own_diagnosis_is(
     are_faults(alloc, &faults, places, words)
 }
 
-// Compares the answers of the calls that take a log with the row of the log.
+// Checks the row of a log: the results of the functions that take the log alone.
 fn log_holds(
     rt: &(impl Threads + Sync),
     alloc: Global,
@@ -528,7 +529,7 @@ fn log_holds(
     Ok(())
 }
 
-// Compares the answers of the calls that also take the nets that differ in a log with the row of the log.
+// Checks the row of a log: the results of the functions that also take the nets that differ in the log.
 fn nets_hold(
     rt: &(impl Threads + Sync),
     alloc: Global,

@@ -1,4 +1,4 @@
-//! Tests of public calls that the program doesn't make.
+//! Tests of public functions that the program does not call.
 #![tactic(auto)]
 
 #[cfg(test)]

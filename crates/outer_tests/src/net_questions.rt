@@ -1,5 +1,5 @@
-// Tests of the questions that a board and its classes answer. The answers are worked out by hand from the terms of
-// the model.
+// Tests of the questions about nets, pins and controls that `Board` and `Classes` answer. The answers are worked out by hand from the
+// definitions.
 ghost use Rattle.net_classes.specs.Kept.{AreClasses};
 
 use crate::boards::{BIDIR, Files, GROUPS, PAIR, PULLED, board_of, is_cell, is_net, is_pin};
@@ -8,11 +8,12 @@ use net_classes::{Classes, classify};
 use run_bench::{RowFault, expect};
 use std::alloc::Global;
 
-// A pin or a control. A pin is the number of its net and its place in the net. A control is the number of its part
+// A pin or a control. For a pin, these are the number of its net and its place in the net. For a control, these are the number of its part
 // and the number of its cell.
 type Place = (u32, u32);
 
-// The way in which a pin drives its net.
+// The way in which a pin drives its net. The cell of a one-sided driver both carries its data and enables it, and no safe setting enables
+// the driver.
 #[derive(Clone, Copy)]
 enum Driven {
     Not,
@@ -22,34 +23,35 @@ enum Driven {
     By(Place),
 }
 
-// A question with its correct answer.
+// A question with its correct answer. A setting is a set of enabled controls. A safe setting enables at most one driver of each net, among
+// other rules.
 #[derive(Clone, Copy)]
 enum Question {
-    // The reason why this net is not covered.
+    // The first reason why no safe setting observes this net, or `None` if some safe setting does.
     Reason(u32, Option<Reason>),
-    // True if this control is useful.
+    // True if the setting with this control alone is safe, and the control enables a driver that some safe setting tests.
     Usable(Place, bool),
-    // True if the setting of these two controls is safe.
+    // True if the setting with these two controls alone is safe.
     Together(Place, Place, bool),
-    // True if some safe setting enables this driver and observes its net.
+    // True if some safe setting enables this driver and observes its net by it.
     DriverTested(Place, bool),
     // True if some safe setting observes the net of this receiver by a driver on another pin.
     ReceiverTested(Place, bool),
-    // True if some safe setting observes the two nets together.
+    // True if the two nets differ and one safe setting observes both.
     Paired(u32, u32, bool),
     // The way in which this pin drives its net.
     Drive(Place, Driven),
-    // True if this pin is a switching driver.
+    // True if this pin is a switching driver: its own cell enables it, and its net is unguarded and is pulled to the cell's disable value.
     Switches(Place, bool),
     // True if this pin is a receiver.
     Receives(Place, bool),
-    // True if something that no boundary cell controls may drive this pin.
+    // True if something that no setting controls may drive the net of this pin.
     Dark(Place, bool),
-    // True if this net is guarded.
+    // True if this net is guarded: only drivers that are always on may be enabled on it.
     Guarded(u32, bool),
 }
 
-// The answers for the board `PAIR`, on which each net has an always-on driver and a receiver.
+// The answers for the board `PAIR`. Each of its nets has a driver that is always on, and a receiver.
 const PAIR_ANSWERS: [Question; 16] = [
     Question::Reason(0, None),
     Question::Reason(1, None),
@@ -65,7 +67,7 @@ const PAIR_ANSWERS: [Question; 16] = [
     Question::Paired(0, 1, true),
     Question::Paired(1, 0, true),
     Question::Paired(1, 1, false),
-    // The cells of always-on drivers control nothing.
+    // The cells of drivers that are always on enable no driver.
     Question::Usable((0, 1), false),
     Question::Together((0, 0), (0, 1), true),
 ];
@@ -123,7 +125,7 @@ const PULLED_ANSWERS: [Question; 7] = [
     Question::ReceiverTested((0, 1), true),
 ];
 
-// A board on which the net of an open-drain driver is pulled to the value that the driver drives. No test can tell whether the driver
+// A board on which the net of an open-drain driver is pulled to the value that the driver drives. No test can show whether the driver
 // works.
 const PULLED_DOWN: Files = Files {
     chain: "DEVICE U1 OD -\nDEVICE U2 RCV1 -\nPULL N 0\n",
@@ -156,7 +158,7 @@ const BUFFERS_ANSWERS: [Question; 17] = [
     Question::Guarded(2, false),
     Question::Guarded(3, true),
     Question::Guarded(4, true),
-    // These are a linkage pin, a pin of a part without a description, a pin of the test access port, and an input pin.
+    // These pins are a linkage pin, a pin of a part without a description, a pin of the test access port, and an input pin.
     Question::Dark((3, 0), true),
     Question::Dark((3, 2), true),
     Question::Dark((4, 0), false),
@@ -187,7 +189,7 @@ const UNSEEN_ANSWERS: [Question; 11] = [
     Question::Paired(0, 1, false),
 ];
 
-// A board with an INERT line for the part without a description. The line says that the part neither drives its pins nor connects them.
+// A board with an INERT line for a part without a description. The line says that the part neither drives its pins nor connects them.
 const INERT: Files = Files {
     chain: "DEVICE U1 DRV -\nDEVICE U2 RCV -\nINERT RAM\n",
     nets: "NET N1 U1.1 U2.1 RAM.7\nNET N2 U1.2 U2.2\n",
@@ -227,7 +229,7 @@ fn pin((net, place): Place) -> PinRef {
     PinRef { net, place }
 }
 
-// Returns the number of a reason, and 0 for no reason. Each reason has a number of its own.
+// Returns 0 for no reason, and a different number for each reason.
 fn number(reason: Option<Reason>) -> u32 {
     match reason {
         None => 0,
@@ -240,7 +242,7 @@ fn number(reason: Option<Reason>) -> u32 {
     }
 }
 
-// Returns whether a question about a net has the right answer. Returns true for any other question.
+// Returns whether a question about a net has the right answer. Returns true for any other question. `classes` must be the board's.
 fn net_answers(board: &Board, classes: &Classes, question: Question) -> bool
     requires { AreClasses board.now classes.now }
 {
@@ -256,7 +258,7 @@ fn net_answers(board: &Board, classes: &Classes, question: Question) -> bool
     }
 }
 
-// Returns whether a question about controls has the right answer. Returns true for any other question.
+// Returns whether a question about controls has the right answer. Returns true for any other question. `classes` must be the board's.
 fn control_answers(board: &Board, classes: &Classes, question: Question) -> bool
     requires { AreClasses board.now classes.now }
 {
@@ -273,7 +275,8 @@ fn control_answers(board: &Board, classes: &Classes, question: Question) -> bool
     }
 }
 
-// Returns whether a question about the tests of a pin has the right answer. Returns true for any other question.
+// Returns whether a question about the tests of a pin has the right answer. Returns true for any other question. `classes` must be the
+// board's.
 fn tested_answers(board: &Board, classes: &Classes, question: Question) -> bool
     requires { AreClasses board.now classes.now }
 {
@@ -290,7 +293,7 @@ fn tested_answers(board: &Board, classes: &Classes, question: Question) -> bool
     }
 }
 
-// Returns whether the board has this pin, and the pin is dark if and only if `wanted` is true.
+// Returns whether the board has this pin and `wanted` says correctly whether the pin is dark.
 fn is_dark(board: &Board, at: PinRef, wanted: bool) -> bool {
     let raw = board.raw();
     match raw.nets.as_slice().get(at.net as usize) {
@@ -367,7 +370,7 @@ fn boards_and_their_classes_answer(rt: HostRuntime) -> Result<(), RowFault> {
     Ok(())
 }
 
-// The port bit of an entry, the port bit in the question, and whether the entry is on the port bit in the question.
+// The port bit of an entry, another port bit, and whether the entry is on that port bit.
 static ENTRIES: [(Option<u32>, u32, bool); 3] = [
     (Some(3), 3, true),
     (Some(3), 2, false),

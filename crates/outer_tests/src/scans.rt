@@ -1,5 +1,5 @@
-// Tests of plans and walks of small boards, with the rows of each scan. The scans are worked out by hand from
-// the model.
+// Tests of the plans and the walking tests of small boards, with the rows of each scan. The scans are worked out by hand from the
+// definitions.
 ghost use Rattle.std.specs.Prelude.{◌≡◌, ◌<◌, IfOk};
 ghost use Rattle.board_defs.specs.Passes.{passes_of};
 ghost use Rattle.scan_planner.specs.Plans.{IsPlanOf, IsRoom, scan_count};
@@ -31,7 +31,7 @@ enum Scan {
     Compares(u64, u64, u64),
 }
 
-// Returns whether the shape and these bits of TDI, TDO and MASK are those of the scan.
+// Returns whether a scan with this shape and these bits of TDI, TDO and MASK is `scan`.
 fn is_scan(shape: Shape, [tdi, tdo, mask]: [u64; 3], scan: Scan) -> bool {
     let (ir, compare, bits) = match scan {
         Scan::Codes(tdi, tdo, mask) => (true, true, (tdi, tdo, mask)),
@@ -46,18 +46,18 @@ fn is_scan(shape: Shape, [tdi, tdo, mask]: [u64; 3], scan: Scan) -> bool {
 enum Making {
     // The plan is made from the passes of the board.
     Passes,
-    // The plan is made from the passes of the board and the pins of its nets.
+    // The plan is made from the passes of the board and the tables of its nets' pins.
     Pins,
     // The plan is made from an empty list of passes.
     Nothing,
 }
 
-// A plan of a board, and the answers that the plan should give.
+// A board, the way in which its plan is made, and the expected codes, rows and scans of the plan.
 struct Planned {
     name: &'static str,
     files: Files,
     making: Making,
-    // Nets with their codes.
+    // Nets, each with its code.
     codes: &'static [(u32, u32)],
     rows: u64,
     scans: &'static [Scan],
@@ -147,7 +147,7 @@ static PLANS: [Planned; 5] = [
     },
 ];
 
-// Returns the bits of a row as a number.
+// Returns the bits of a row as a number. Bit 0 of the row is the lowest.
 fn number(row: &Row) -> u64 {
     let count = row.len();
     let mut number = 0u64;
@@ -158,14 +158,14 @@ fn number(row: &Row) -> u64 {
     number
 }
 
-// Returns the number of bits of the board's longer register.
+// Returns the number of bits of an instruction scan or of a data scan of the board, whichever is longer.
 fn longest_scan(board: &Board) -> u32
     ensures { IsRoom board.now result }
 {
     board.ir_bits().max(board.dr_bits())
 }
 
-// Returns whether scan `k` of a plan is this scan.
+// Returns whether scan `k` of the board's plan is the scan `wanted`. `k` must be below the number of scans.
 fn scan_is(
     alloc: Global,
     board: &Board,
@@ -190,7 +190,7 @@ fn has_codes(plan: &Plan, codes: &[(u32, u32)]) -> bool {
     codes.iter().all(|(net, code)| plan.code(*net) == *code)
 }
 
-// Compares a plan with the expected answers.
+// Checks the codes, the number of rows and the scans of the board's plan.
 fn plan_holds(alloc: Global, board: &Board, plan: &Plan, wanted: &Planned) -> Result<(), RowFault>
     requires { IsPlanOf board.now plan.now }
 {
@@ -232,7 +232,7 @@ fn new_plan(alloc: Global, board: &Board) -> Result<Plan, AllocError>
     Ok(plan)
 }
 
-// Returns the plan of the board's passes, made with the pins of its nets.
+// Like `new_plan`, but also uses the tables of the nets' pins.
 fn plan_by_pins(alloc: Global, board: &Board) -> Result<Plan, AllocError>
     ensures { IfOk result (λ plan. IsPlanOf board.now plan) }
 {
@@ -273,7 +273,7 @@ fn plans_make_the_scans_of_a_board(rt: HostRuntime) -> Result<(), RowFault> {
     Ok(())
 }
 
-// The walk of a board, and the answers that the walk should give.
+// A board, and the expected nets and scans of its walking test.
 struct Walked {
     name: &'static str,
     files: Files,
@@ -296,7 +296,7 @@ const DRIVERS_SCANS: [Scan; 7] = [
     Scan::Compares(0x00, 0x01, 0x0D),
 ];
 
-// The files of a board without a driver. The board has no pass.
+// A board without a driver. Its test has no pass.
 const RECEIVER: Files = Files {
     chain: "DEVICE U2 RCV -\n",
     nets: "NET N1 U2.1\n",
@@ -323,7 +323,7 @@ static WALKS: [Walked; 2] = [
     },
 ];
 
-// Returns whether scan `k` of a walk is this scan.
+// Returns whether scan `k` of the board's walking test is the scan `wanted`. `k` must be below the number of scans.
 fn walk_scan_is(
     alloc: Global,
     board: &Board,
@@ -343,7 +343,7 @@ fn walk_scan_is(
     Ok(is_scan(shape, bits, wanted))
 }
 
-// Compares a walk with the expected answers.
+// Checks the nets and the scans of the board's walking test.
 fn walk_holds(alloc: Global, board: &Board, walk: &Walk, wanted: &Walked) -> Result<(), RowFault>
     requires { IsWalkOf board.now walk.now }
 {
@@ -362,7 +362,7 @@ fn walk_holds(alloc: Global, board: &Board, walk: &Walk, wanted: &Walked) -> Res
     Ok(())
 }
 
-// Returns the walk of a board.
+// Returns the walking test of a board.
 fn new_walk(alloc: Global, board: &Board) -> Result<Walk, AllocError>
     ensures { IfOk result (λ walk. IsWalkOf board.now walk) }
 {
