@@ -2,3 +2,4 @@ pub mod PositionLemmas
 pub mod EntryLemmas
 pub mod GuardLemmas
 pub mod NetTableLemmas
+mod Samples
