@@ -8,3 +8,4 @@ mod OneAnswer
 mod SomeAnswer
 pub mod ListingLemmas
 mod ListingRuns
+mod Samples
