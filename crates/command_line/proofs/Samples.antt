@@ -1,6 +1,6 @@
 -- Samples of words with the commands that they form and the numbers that they denote, worked out by hand.
 use Rattle.std.proofs.Common.{◌≡◌, ℕ, List, [], ◌∷◌, map, replicate, Option, Some, None, codes, refl}
-use Rattle.command_line.specs.declared.command.Command.TheVariants.{Walk, Ident, Make, Diagnose, Groups, Batch}
+use Rattle.command_line.specs.declared.command.Command.TheVariants.{Chain, Walk, Ident, Make, Diagnose, Groups, Batch}
 use Rattle.command_line.specs.Words.{Text, BoardNames, Command, board_called, log_called, command_of, number_of}
 
 leading_zeros : number_of 255 (codes "00000000000000000007") ≡ Some 7
@@ -119,6 +119,10 @@ no_plain_words : map command_of
     ((codes "walk" ∷ codes "-c" ∷ codes "n" ∷ []) ∷ (codes "walk" ∷ codes "c" ∷ [] ∷ []) ∷ [])
     ≡ None ∷ None ∷ []
 no_plain_words = refl
+
+-- a `-` after the first character is allowed
+dash_inside : command_of (codes "chain" ∷ codes "c-1" ∷ []) ≡ Some (Chain (record { chain = codes "c-1"; bsdl = [] }))
+dash_inside = refl
 
 -- a chain file, a net file and `count` BSDL names
 abbrev described : ℕ → List Text
