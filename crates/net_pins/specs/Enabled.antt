@@ -24,7 +24,7 @@ is_read_beside readers d = list_any (λ r. not (r.place == d.place)) readers
 abbrev pub observing_of : Enabling → List NetDriver → List ReaderCell → Option NetDriver
 observing_of setting drivers readers = option_and_then (λ d. cond (is_read_beside readers d) (Some d) None) (enabled_in setting drivers)
 
--- the drivers of net n that a setting may enable
+-- the drivers of net n, or none if the net is guarded
 abbrev pub drivers_on : NetTables → ℕ → List NetDriver
 drivers_on nets n = slice_index_or nets.drivers n []
 
@@ -32,7 +32,8 @@ drivers_on nets n = slice_index_or nets.drivers n []
 abbrev pub readers_on : NetTables → ℕ → List ReaderCell
 readers_on nets n = slice_index_or nets.readers n []
 
--- the driver that a setting enables on net n
+-- The driver that a setting enables on net n, or None if the net is guarded. Every setting also enables the always-on drivers of guarded
+-- nets, but no test uses them.
 abbrev pub enabled_on : NetTables → Enabling → ℕ → Option NetDriver
 enabled_on nets setting n = enabled_in setting (drivers_on nets n)
 
