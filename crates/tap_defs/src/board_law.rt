@@ -46,7 +46,8 @@ pub fn codes_number_covered()
 {}
 
 /// A test begins with three scans: the preload codes, the quiet row and the EXTEST codes. Each pass
-/// then has one scan for each row, and a last scan that shifts in the quiet row.
+/// then has one scan for each row, and a last scan that shifts in the quiet row. The quiet row
+/// enables no controlled driver and has no expected bits.
 pub fn scans_placed()
     ensures { (board : RawBoard) (passes : List (List Ctl)) (width : ℕ)
         → AreTestScans board passes width (test_scans board passes width) }
@@ -89,9 +90,10 @@ pub fn singles_observable()
     ensures no_open_shorted { (single : Single) → NoOpenShorted (set_of single) }
 {}
 
-/// A test whose expected bits come from a log passes on the faulty board if and only if each of its
-/// data scans passes with the bits that the cells capture. The cells capture while the row of the
-/// previous scan is in the latches.
+/// Let the expected bits of a test be the bits of a log. The test passes on the board with these
+/// faults if and only if each of `scans`, the data scans after the EXTEST codes, passes with the
+/// bits that the cells capture, whatever the free bits are. The cells capture while the row of the
+/// previous scan is in the latches. For the first of `scans`, this is the quiet row.
 pub fn logs_captured()
     ensures { (board : RawBoard) (faults : FaultSet) (scans : List RowScan) (log : List (List Bool))
         → IsBoard board
@@ -100,9 +102,10 @@ pub fn logs_captured()
         (scans_by_log (map (scan_of_row board) scans) log) }
 {}
 
-/// If no open pin is on a shorted net and the setting of the row is safe, each compared cell
-/// captures the same bit whatever the free bits are. Free bits are those that the standard and the
-/// device descriptions leave open.
+/// While the row `scan.before` is in the latches, each compared cell captures the same bit whatever
+/// the free bits are. The faults must be a fault set of the board in which no open pin is on a
+/// shorted net, and the setting of that row must be safe. Free bits are those that the standard and
+/// the device descriptions leave open, and the bit of a short if nothing decides it.
 pub fn one_response()
     ensures { (board : RawBoard) (faults : FaultSet) (scan : RowScan) → IsBoard board
         → IsFaultSet board faults → NoOpenShorted faults → IsSafe board scan.before.setting
@@ -122,7 +125,7 @@ pub fn rows_drive()
 {}
 
 /// The SDR statements of a test that compare some bit are the statements of its compared data
-/// scans, in order. There are equally many of both.
+/// scans, in the same order. So the test has as many of these statements as compared data scans.
 pub fn statements_compared()
     ensures statements { (board : RawBoard) (scans : List RowScan)
         → filter is_compared (board_scans board scans)
@@ -131,10 +134,12 @@ pub fn statements_compared()
         → count_by is_compared (board_scans board scans) ≡ length (compared_scans board scans) }
 {}
 
-/// The compared scans of a test are those that compare the rows of its passes, each row once and in
-/// order. A pass that observes no net compares nothing. Each pass observes some net if the passes
-/// meet the requirements on passes (`ArePasses`). A log then has a row for each row of each pass. A
-/// walking test compares each of its rows once and in order.
+/// The compared scans of a test compare the rows of its passes, pass by pass and row by row, each
+/// row once. A pass that observes no net has no compared scans. If the passes meet the requirements
+/// on passes (`ArePasses`), each pass observes some net. Then a log has the shape of the test
+/// (`HasShape`) if and only if it has `width` rows for each pass and each row has a bit for each
+/// position of a data scan. The compared scans of a walking test compare its rows in turn, each row
+/// once.
 pub fn rows_compared()
     ensures passes { (board : RawBoard) (passes : List (List Ctl)) (width : ℕ) → IsBoard board
         → ArePasses board passes
@@ -152,10 +157,12 @@ pub fn rows_compared()
         (compared_scans board (walk_row_scans board walk)) }
 {}
 
-/// If every compared bit of a log is the expected one, the faults that explain the log are those
-/// under which the test passes. So no nonempty observable fault set explains such a log. A log has
-/// no bits of the SIR statements, but they pass under any faults, because their bits depend only on
-/// the chain.
+/// Let a log have the shape of the test, and let every compared bit be the expected one
+/// (`IsExpected`). Then the faults that explain the log are those under which the test passes. The
+/// log has no bits of the SIR statements, but these pass under any faults, because their bits
+/// depend only on the chain. If the passes meet the requirements on passes (`ArePasses`) and the
+/// codes have enough bits for the observed nets, no nonempty observable fault set explains the log.
+/// The test that is generated for a board meets both conditions.
 pub fn expected_logs()
     ensures passing { (board : RawBoard) (faults : FaultSet) (scans : List RowScan)
         (log : List (List Bool)) → IsBoard board → IsExpected board scans log
@@ -187,8 +194,8 @@ pub fn scans_in_turn()
 
 /// If each scan compares the row that is in the latches (`AreInTurn`), faults explain a log if and
 /// only if two conditions are met. The log has the shape of the test. Each compared bit in it is
-/// the bit that the cell captures under these faults, while the row of the previous scan is in the
-/// latches.
+/// the bit that the cell captures under these faults, whatever the free bits are, while the row of
+/// the previous scan is in the latches.
 pub fn logs_by_rows()
     ensures { (board : RawBoard) (faults : FaultSet) (scans : List RowScan) (log : List (List Bool))
         → IsBoard board → AreInTurn board scans
@@ -196,9 +203,10 @@ pub fn logs_by_rows()
         ↔ (HasShape board scans log × IsCapturedBy board faults scans log) }
 {}
 
-/// If no open pin is on a shorted net, the faults explain some log of the test. Any two logs that
-/// the same faults explain have the same compared bits. So a single fault determines every compared
-/// bit of its logs.
+/// Let each scan of the test compare the row that is in the latches (`AreInTurn`). A fault set of
+/// the board in which no open pin is on a shorted net explains some log of the test. Any two logs
+/// that the same faults explain have the same compared bits. Every single fault of a board explains
+/// some log, so it determines every compared bit of its logs.
 pub fn one_log()
     ensures some { (board : RawBoard) (faults : FaultSet) (scans : List RowScan) → IsBoard board
         → IsFaultSet board faults → NoOpenShorted faults → AreInTurn board scans
@@ -212,8 +220,10 @@ pub fn one_log()
         → (log : List (List Bool)) × ExplainedBy board (set_of single) scans log }
 {}
 
-/// A single fault of a board explains a log if and only if the log has the shape of the test and
-/// each compared cell has the bit that `single_bit` gives for the fault.
+/// Let each scan of the test compare the row that is in the latches (`AreInTurn`), as in the test
+/// that is generated for a board. A single fault of a board explains a log if and only if the log
+/// has the shape of the test and each compared cell has the bit that `single_bit` gives for the
+/// fault.
 pub fn singles_respond()
     ensures bits { (board : RawBoard) (single : Single) (scans : List RowScan)
         (log : List (List Bool)) → IsBoard board → IsSingle board single → AreInTurn board scans
@@ -226,8 +236,8 @@ pub fn singles_respond()
         × ShowsBits board (svf_row_scans board) (single_bit board single) log) }
 {}
 
-/// A log is the expected one if and only if it has the shape of the test and each compared cell has its expected bit. Each compared cell
-/// reads a pin of a net.
+/// A log is the expected one if and only if it has the shape of the test and each compared cell has
+/// its expected bit. Each compared cell reads a pin of a net.
 pub fn expected_bits()
     ensures bits { (board : RawBoard) (scans : List RowScan) (log : List (List Bool))
         → IsExpected board scans log

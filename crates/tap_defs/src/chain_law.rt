@@ -10,16 +10,23 @@ ghost use Rattle.tap_defs.specs.chain.Svf.{meaning};
 ghost use Rattle.tap_defs.specs.chain.Text.{svf_text, AllSized};
 ghost use Rattle.tap_defs.specs.chain.Transport.{DataTransport, LongDataTransport, CodeTransport, LongCodeTransport};
 
-/// A data scan outputs the captured bits in order, and the chain then holds the bits that were
-/// shifted in (IEEE 1149.1-1990, section 8). This is so whatever the pins capture.
+/// A data scan that is as long as the selected registers together outputs the captured bits in
+/// order, and the chain then holds the bits that were shifted in (IEEE 1149.1-1990, section 8). For
+/// a data scan of any length `n`, take the captured bits followed by the bits that are shifted in:
+/// the first `n` of them come out, and the chain then holds the others. This is so whatever the
+/// pins capture. The scan must have at least one bit and begin in Run-Test/Idle, and the
+/// instruction of each part must select a register of the model.
 pub fn data_scans()
     ensures transport { DataTransport }
     ensures any_length { LongDataTransport }
 {}
 
-/// An instruction scan outputs the captured bits in order, and each part then has the instruction
-/// of the code that was shifted into it (IEEE 1149.1-1990, section 6). This is so whatever the
-/// current instructions are.
+/// An instruction scan that is as long as the instruction registers together outputs the captured
+/// bits in order, and each part then has the instruction of the code that was shifted into it (IEEE
+/// 1149.1-1990, section 6). For an instruction scan of any length `n`, take the captured bits
+/// followed by the bits that are shifted in: the first `n` of them come out, and the instruction
+/// registers then hold the others. This is so whatever the current instructions are. The scan must
+/// have at least one bit and begin in Run-Test/Idle.
 pub fn code_scans()
     ensures transport { CodeTransport }
     ensures any_length { LongCodeTransport }
@@ -34,9 +41,9 @@ pub fn texts_mean()
 {}
 
 /// The chain test passes on every chain of parts with these instruction lengths. It fails on every
-/// chain that has another number of parts and no more instruction-register bits in total. There
-/// must be at least one length, each length must be at least 2, and their sum must be at most
-/// `most_bits`.
+/// chain that has another number of parts, at least one, each with two or more instruction bits,
+/// and no more instruction bits in total. There must be at least one length, each length must be at
+/// least 2, and their sum must be at most `most_bits`.
 pub fn chain_tests()
     ensures { (lengths : List ℕ) → AreIrLengths lengths → sum lengths ≤ most_bits
         → IsChainTest lengths (chain_text lengths) }

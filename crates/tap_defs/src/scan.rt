@@ -29,7 +29,8 @@ pub struct ScanRows<'a> {
 }
 
 impl ScanRows<'_> {
-    /// Copies each stored row into its counterpart. Each row must have room for the bits.
+    /// Copies each stored row into its counterpart. Each row must have room for the bits of its
+    /// counterpart.
     pub fn copy_from(&mut self, stored: &StoredRows)
         requires { HaveRoomFor stored.now self.old }
         ensures tdi { self.new.tdi.now.bits ≡ stored.now.tdi.bits }

@@ -97,8 +97,8 @@ module _ (board : RawBoard) (rules : IsBoard board) (faults : FaultSet) where
   abbrev Held : TestRow → TestRow → List ChainPart → Type 0
   Held row before chain = IsBoardChain board chain × InTest board (shifted_row board (record { now = row; before = before })) chain
 
-  -- The effect of one scan. It passes if its bits agree with the bits that the board captures for `row`. Afterwards the
-  -- scan's own row is in the latches.
+  -- The effect of one scan that begins while `row` is in the latches. It passes if and only if it passes with the bits
+  -- that the board captures for `row`. Afterwards the row that the scan shifted in is in the latches.
   record Scanned (t : RowScan) (row : TestRow) (scan : Scan) (free : Choices) (chain : List ChainPart) : Type 0 where
     compares : run_passes (scan_clocks scan) (tdos around (scan_clocks scan) free chain)
         ≡ scan_passes scan.bits (row_captured board faults row (free 2))
@@ -187,7 +187,7 @@ module _ (board : RawBoard) (rules : IsBoard board) (faults : FaultSet) where
   with_any (t ∷ ts) [] row h = tt
   with_any (t ∷ ts) (s ∷ scans) row h = ((λ choice. (h choice).0), with_any ts scans t.now (λ choice. (h choice).1))
 
--- the clocks differ only in what they compare
+-- the two lists of clocks differ at most in what they compare
 abbrev pub Alike : List Clock → List Clock → Type 0
 Alike [] [] = Unit {0}
 Alike [] (d ∷ ds) = ⊥

@@ -1,4 +1,5 @@
--- Each code from 1 to `2 ^ w - 2` has a 0 bit and a 1 bit, and two different codes below `2 ^ w` differ in some bit.
+-- Among their lowest `w` bits, each code from 1 to `2 ^ w - 2` has a 0 bit and a 1 bit, and two different codes below
+-- `2 ^ w` differ.
 use Rattle.std.proofs.Common.{◌≡◌, ◌≢◌, ℕ, zero, suc, ◌+◌, ◌/◌, ◌%◌, ◌^◌, ◌<◌, ◌≤◌, ◌==◌, Bool, true, false, cond, not, List, [], ◌∷◌, take, Some, refl, sym, ◌∙◌, ap, arith}
 use Rattle.std.specs.Prelude.{slice_get, count_by}
 use Rattle.std.proofs.lemmas.Nat.Bits.{bit_at-suc, bit_at_lowest}

@@ -21,7 +21,7 @@ use Rattle.tap_defs.proofs.board.FeedingLemmas.{NetRules, dead_at, carries, cut_
 use Rattle.tap_defs.proofs.board.ReadingLemmas.{AllRead, compared, compared_at}
 use Rattle.tap_defs.proofs.board.WrongLemmas.{Compared, IsDead, wrong_if_constant, wrong_if_shorted}
 
--- a scan is wrong if it compares this row
+-- every scan that compares this row, while the row is in the latches, is wrong
 abbrev pub WrongAt : RawBoard → FaultSet → TestRow → Type 0
 WrongAt board faults row =
     (before now : TestRow)
@@ -75,9 +75,9 @@ pub record Sees (board : RawBoard) (pass : List Ctl) (n d : ℕ) : Type 0 where
   pub rules : NetRules board n net
   pub observing : observing_driver board (holds pass) net ≡ Some d
 
--- The properties of passes that make a test detect faults. The passes are safe. They observe every covered net, tested
--- driver, tested receiver and pair of paired nets. The code of each covered net has a 0 bit and a 1 bit, and the codes
--- of paired nets differ.
+-- The properties of passes that make a test detect faults. Each boundary cell of a device has at most one reading entry
+-- (`AllRead`). The passes are safe. They observe every covered net, tested driver, tested receiver and pair of paired
+-- nets. The code of each covered net has a 0 bit and a 1 bit, and the codes of paired nets differ.
 pub record IsPlan (board : RawBoard) (passes : List (List Ctl)) (width : ℕ) : Type 0 where
   pub read : AllRead board
   pub safe : (x : ℕ) (pass : List Ctl) → slice_get passes x ≡ Some pass → IsSafe board (holds pass)

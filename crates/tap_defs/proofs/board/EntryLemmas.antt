@@ -1,5 +1,5 @@
 -- From any state, the head of a test and its first three scans give the described parts the instruction EXTEST and put
--- the quiet row into the latches.
+-- the quiet row, which enables no controlled driver, into the latches.
 use Rattle.std.proofs.Common.{not, ◌≡◌, ◌≢◌, ℕ, zero, suc, ◌<◌, ◌≤◌, Bool, true, false, cond, ◌&&◌, List, [], ◌∷◌, length, map, Option, Some, refl, sym, ◌∙◌, ap, subst, length-append, take, arith, ◌++◌, ◌==◌, None}
 use Rattle.std.specs.Prelude.{slice_get, option_map, unwrap_or}
 use Rattle.std.specs.List.{list_all, AllByRecursion}

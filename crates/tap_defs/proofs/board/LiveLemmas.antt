@@ -149,7 +149,8 @@ pub same_self : (b : Bool) → not (is_same b b) ≡ false
 same_self true = refl
 same_self false = refl
 
--- A driver is not live if the setting does not enable it and its cell carries no net's bit.
+-- While a row is in the latches, a driver is not live if the row's setting does not enable it and its cell carries no
+-- net's bit.
 pub dead_if_off : (board : RawBoard) (row before : TestRow) (chain : List ChainPart) (k b : ℕ) (part : Part) (device : RawDevice) →
     let t : RowScan = record { now = row; before = before } in
     let at : PinAt = record { part = k; bit = b } in

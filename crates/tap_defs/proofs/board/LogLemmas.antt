@@ -94,7 +94,8 @@ silent_same (b ∷ bits) e = by_expect (silent_same bits) b.expect refl e
     by_expect ih None q h = cons_path (ap (λ (o : Option Bool). record b { expect = o }) (sym q)) (ih h)
     by_expect ih (Some v) q h = cc h
 
--- Replacing the expected bits of the statements by the rows of an expected log changes nothing.
+-- If a log is the expected one, its rows have the expected bits wherever the statements compare. So the rows may
+-- replace them.
 module _ (board : RawBoard) where
   abbrev statement : RowScan → Scan
   statement t = scan_of_row board t
@@ -160,7 +161,6 @@ module _ (board : RawBoard) where
       (ap (λ (scans : List Scan). are_expected scans log)
       (filter-map is_compared statement ts ∙ sym (statements_compared board ts)) ∙ e.bits)
 
-  -- the statements of a test shift in its rows
   plain_shifts : (ts : List RowScan) → ShiftRows board ts (map statement ts)
   plain_shifts [] = tt
   plain_shifts (t ∷ ts) = (refl, refl, plain_shifts ts)

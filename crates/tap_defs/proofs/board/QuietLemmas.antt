@@ -1,4 +1,4 @@
--- While a row of a safe pass is in the latches, the board is quiet.
+-- While a row of a safe pass is in the latches, the board is quiet (`IsQuietMoment`).
 use Rattle.std.proofs.Common.{◌≡◌, ℕ, ◌<◌, ◌==◌, Bool, true, false, cond, not, ◌&&◌, ◌||◌, inr, List, Option, Some, None, refl, sym, ◌∙◌, ap, subst, arith}
 use Rattle.std.specs.Prelude.{slice_get, unwrap_or, option_map, option_and_then}
 use Rattle.std.specs.List.{list_any}

@@ -1,5 +1,5 @@
--- Faults explain a log if and only if its rows have the compared bits that the cells capture. The cells capture while
--- the row of the previous scan is in the latches.
+-- Faults explain a log if and only if it has the shape of the test and its rows have the compared bits that the cells
+-- capture. The cells capture while the row of the previous scan is in the latches.
 use Rattle.std.proofs.Common.{◌≡◌, ◌↔◌, ℕ, zero, suc, Bool, true, false, cond, ◌⊎◌, inl, inr, List, [], ◌∷◌, ◌++◌, length, map, filter, Option, Some, None, refl, sym, ◌∙◌, ap, subst, arith}
 use Rattle.std.specs.Prelude.{slice_get, is_some, option_map, unwrap_or, count_by}
 use Rattle.std.specs.List.{AllByRecursion}

@@ -88,7 +88,7 @@ buf2 = device
     (entry 4 Input 4 None ∷ control 4 ∷ entry 3 Input 5 None ∷ entry 2 Input 6 None
     ∷ entry 1 Output3 7 (by 4) ∷ entry 0 Output3 8 (by 4) ∷ []) 5
 
--- the pin of part `k` at port bit `b`, and a pin of a part outside the chain
+-- the pin of part `k` at port bit `b`
 abbrev pub pin_at_bit : ℕ → ℕ → NetPin
 pin_at_bit k b = record { part = codes "U"; pin = codes "1"; at = Some (record { part = k; bit = b }); inert = false }
 

@@ -211,8 +211,8 @@ one_pull = refl
 nothing_decides : map (λ bit. pair_by bit None None None None) (off ∷ on ∷ []) ≡ read off off off off ∷ read on on on on ∷ []
 nothing_decides = refl
 
--- Three shorted nets. If the dominant net is not driven, the bit of the short is the And of the bits of the other nets,
--- driven or pulled.
+-- Shorts of three nets. If the dominant net is not driven, the bit of the short is the And of the bits of the driven
+-- nets. If no net is driven and the dominant net has no pull, it is the And of the pulls of the other nets.
 abbrev all_three : ShortKind → RawBoard → Option Bool → Option Bool → Option Bool → List (Option Bool)
 all_three kind b first second third = net_bits on b (shorted 3 kind) (three_give first second third)
 

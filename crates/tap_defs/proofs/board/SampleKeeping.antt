@@ -1,4 +1,4 @@
--- Samples of the cells that must keep their safe values, and of wrong tests: each breaks a condition of quiet texts.
+-- Samples of the cells that must keep their safe values, and of wrong tests: each breaks a condition of `IsQuiet`.
 use Rattle.std.proofs.Common.{◌≡◌, ℕ, zero, suc, ◌==◌, Bool, true, false, not, List, [], ◌∷◌, ◌++◌, map, take, drop, Option, Some, None, refl, inl, inr, arith}
 use Rattle.std.specs.Prelude.{codes, cond}
 use Rattle.std.specs.List.{list_any, enumerate_from}
@@ -106,7 +106,8 @@ latched_low = refl
 latched_high : latched on ≡ map (λ cell. false) cells
 latched_high = refl
 
--- the visible state of a part with this instruction and these latches; in these samples one of two parts has EXTEST and the other does not
+-- The visible state of a part with this instruction and these latches. In `half_in_test` one of two parts has EXTEST
+-- and the other does not, which breaks condition (a).
 abbrev shows : Instruction → List Bool → PinState
 shows instruction latches = record { current = instruction; latches = latches }
 

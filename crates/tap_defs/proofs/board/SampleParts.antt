@@ -59,7 +59,7 @@ reset_identified = refl
 reset_unknown : map (reset_to unknown) (off ∷ on ∷ []) ≡ Bypass ∷ Other ∷ []
 reset_unknown = refl
 
--- in Test-Logic-Reset the latches become any bits, and nothing else changes
+-- in Test-Logic-Reset the latches become any bits and the instruction becomes BYPASS; nothing else changes
 reset_bits : map (λ bit. after plain bit true off (part TestLogicReset Sample)) (off ∷ on ∷ []) ≡
     record (part TestLogicReset Bypass) { latches = off ∷ off ∷ [] } ∷ record (part TestLogicReset Bypass) { latches = on ∷ on ∷ [] } ∷ []
 reset_bits = refl

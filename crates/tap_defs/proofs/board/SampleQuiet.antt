@@ -1,4 +1,4 @@
--- Tests of a net with two drivers that are wrong, because they are not quiet.
+-- Tests of a net with two drivers that are not quiet (`IsQuiet`).
 use Rattle.std.proofs.Common.{◌≡◌, ℕ, zero, suc, Bool, true, false, List, [], ◌∷◌, ◌++◌, take, drop, Some, refl, inl, inr, subst, arith}
 use Rattle.std.specs.Prelude.{slice_get}
 use Rattle.board_defs.specs.declared.board.PartKind.TheVariants.{Described}
@@ -112,7 +112,7 @@ quiet_row_between quiet =
     (later_moments without_quiet_row choices) moments 53 first_on second_on refl refl 0 _ 0 1 _
     _ refl refl refl (λ e. omega (arith, e)) refl refl
 
--- a test that selects EXTEST right after the reset, when both control cells may have 0
+-- a test that selects EXTEST right after the reset, when both control cells may have 0 and so enable both drivers
 abbrev without_preload : List Clock
 without_preload = test_clocks (take 1 (drop 2 (svf_scans bus)))
 

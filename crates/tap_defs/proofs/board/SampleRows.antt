@@ -31,8 +31,8 @@ set controls = holds controls
 abbrev c : ℕ → ℕ → Ctl
 c part cell = record { part = part; cell = cell }
 
--- devices: a bidirectional pin, a three-state driver, a driver that a control disables at 0, a receiver, an observer and drivers that are
--- always on
+-- devices: a bidirectional pin, a driver that a control cell disables with a 0, an input with an OBSERVE_ONLY cell, and
+-- an input with a CLOCK cell
 abbrev bi : RawDevice
 bi = device (one_bit Both) (entry 0 Bidir 4 (by 1) ∷ control 1 ∷ []) 2
 
@@ -45,7 +45,7 @@ observer = device (one_bit Inward) (entry 0 ObserveOnly 4 None ∷ []) 1
 abbrev clocked : RawDevice
 clocked = device (one_bit Inward) (entry 0 Clock 4 None ∷ []) 1
 
--- A board. Net 0 is dark, and nets 1 and 2 are observed. The only receiver on net 3 is its driver.
+-- A board. Net 0 is dark, and nets 1 and 2 are observed. The only receiver on net 3 is the pin that drives it.
 abbrev mixed : RawBoard
 mixed = board
     (Described bi ∷ Described ts ∷ Described ts0 ∷ Described rcv ∷ Described observer ∷ Described
@@ -119,8 +119,8 @@ unobserved_driver = refl
 dark_driver : rows_of (c 1 1 ∷ []) 6 drv ≡ (off ∷ off ∷ []) ∷ (off ∷ off ∷ []) ∷ []
 dark_driver = refl
 
--- The expected bits in row 0. The INPUT, CLOCK and BIDIR cells on an observed net have one, except at the pin of the
--- enabled driver.
+-- The bits that the cells of part `part` are expected to capture in a row. The INPUT, CLOCK and BIDIR cells on an
+-- observed net have one, except at the pin of the enabled driver.
 abbrev expected : TestRow → ℕ → RawDevice → List (Option Bool)
 expected r part d = map (expect_bit mixed r part d) (range_with_len 0 d.boundary)
 

@@ -1,5 +1,6 @@
--- A single fault explains a log if and only if each compared cell has in the log the bit that the fault gives it. A log
--- is the expected one if and only if each compared cell has its expected bit.
+-- Two equivalences about a log that has the shape of the test. A single fault explains it if and only if each compared
+-- cell has in it the bit that the fault gives the cell. It is the expected log if and only if each compared cell has
+-- its expected bit.
 use Rattle.std.proofs.Common.{◌≡◌, ◌↔◌, ℕ, zero, suc, ◌*◌, Bool, true, false, List, [], ◌∷◌, ◌++◌, length, map, filter, Option, Some, None, refl, sym, ◌∙◌, ap, subst}
 use Rattle.std.specs.Prelude.{slice_get, unwrap_or, All}
 use Rattle.std.proofs.lemmas.Bool.{and_parts, and_from}

@@ -183,8 +183,8 @@ wrong_if_constant board faults row before now n net c u dead const carried chain
     (passes_at board faults row now n net (not u) carried c free chain
     (dead before chain h) ok) ∙ const free chain h))
 
--- Two nets in one short have the same bit. So a scan is wrong if it compares a row in which they carry different bits.
--- The pins of their compared cells must not be open.
+-- Two nets in one short have the same bit if neither is stuck. So a scan is wrong if it compares a row in which they
+-- carry different bits. The pins of their compared cells must not be open and must not be live drivers.
 pub wrong_if_shorted : (board : RawBoard) (faults : FaultSet) (row before now : TestRow) (a b s : ℕ)
     (v : Bool) (one two : Net) (c : Compared board row.setting a one)
     (d : Compared board row.setting b two) →

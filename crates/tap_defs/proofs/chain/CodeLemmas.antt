@@ -17,7 +17,7 @@ use Rattle.tap_defs.proofs.chain.ListLemmas.{cons_path, take_front, drop_front, 
 use Rattle.tap_defs.proofs.chain.MoveLemmas.{with_tap, at_tap, moved_to, chain_moves, map-moved_to, ir_captures-moved_to, moved_in, run_moves}
 use Rattle.tap_defs.proofs.chain.RunLemmas.{run-append, tdos-append, shifts_pass}
 
--- the part has the same values of all properties that an instruction scan does not change
+-- `s` and `after` agree in everything that an instruction scan leaves unchanged
 abbrev SameFrame : TestLogic → PartState → PartState → Type 0
 SameFrame logic s after =
     ◌≡◌ {A = CodeFrame} (code_frame (record { logic = logic; state = after }))

@@ -49,7 +49,7 @@ row_bits board scan = bits_by_part board scan 0 board.chain
 abbrev pub scan_of_row : RawBoard → RowScan → Scan
 scan_of_row board scan = record { ir = false; bits = joined (row_bits board scan) }
 
--- the clocks of data scans, in order
+-- the clocks of these data scans, in the order of the scans
 abbrev pub row_clocks : RawBoard → List RowScan → List Clock
 row_clocks board scans = all_clocks (map (scan_of_row board) scans)
 

@@ -7,15 +7,16 @@ use Rattle.tap_defs.specs.board.FaultSet.{FaultSet, no_faults, IsObservable, IsN
 use Rattle.tap_defs.specs.board.OnBoard.{PassOnBoard, FailOnBoard}
 use Rattle.tap_defs.specs.board.Quiet.{IsQuiet}
 
--- The text may be applied to the board. It has a meaning, passes on the board without faults, and is quiet under every
--- fault set: drivers never conflict, and unused cells keep their safe values.
+-- A text is harmless on a board if it has a meaning, passes on the board without faults, and is quiet under every fault
+-- set. Quiet (`IsQuiet`) means that, from the fifth clock on, no two drivers ever drive a net together, and cells that
+-- the test does not use keep their safe values.
 pub record IsHarmless (board : RawBoard) (text : List ℕ) : Type 0 where
   pub clocks : List Clock
   pub means : meaning text ≡ Some clocks
   pub passes : PassOnBoard board no_faults clocks
   pub quiet : IsQuiet board clocks
 
--- The text is a test of the board. It meets all conditions of `IsHarmless`, and fails under every nonempty observable
+-- A text is a test of a board if it meets all conditions of `IsHarmless` and fails under every nonempty observable
 -- fault set.
 pub record IsBoardTest (board : RawBoard) (text : List ℕ) : Type 0 where
   pub clocks : List Clock

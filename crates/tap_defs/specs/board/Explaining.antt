@@ -51,8 +51,8 @@ bits_by_log (bit ∷ bits) (logged ∷ row) = record bit { expect = cond (is_som
 abbrev pub is_compared : Scan → Bool
 is_compared scan = not scan.ir && compares scan.bits
 
--- The scans with a log as the expected bits. Each compared SDR statement uses the next row of the log. All other
--- statements compare nothing.
+-- The scans with a log as the expected bits. Each compared SDR statement uses the next row of the log. A compared SDR
+-- statement after the end of the log compares nothing, and neither does any other statement.
 abbrev pub scans_by_log : List Scan → List (List Bool) → List Scan
 scans_by_log [] log = []
 scans_by_log (scan ∷ scans) [] = record scan { bits = uncompared scan.bits } ∷ scans_by_log scans []
@@ -66,8 +66,8 @@ pub record HasShape (board : RawBoard) (scans : List RowScan) (log : List (List 
   pub rows : length log ≡ count_by is_compared (board_scans board scans)
   pub bits : All (λ row. length row ≡ data_bits board) log
 
--- The faults explain the log: in every run of the test with these faults, each compared bit of each compared SDR statement is the log's bit
--- in that row and at that position.
+-- The faults explain the log: the log has the shape of a log of this test, and in every run of the test with these
+-- faults, each compared bit of each compared SDR statement is the log's bit in that row and at that position.
 pub record ExplainedBy (board : RawBoard) (faults : FaultSet) (scans : List RowScan) (log : List (List Bool)) : Type 0 where
   pub shape : HasShape board scans log
   pub passes : PassOnBoard board faults (test_clocks (scans_by_log (board_scans board scans) log))
@@ -87,11 +87,12 @@ pub record IsExpected (board : RawBoard) (scans : List RowScan) (log : List (Lis
   pub shape : HasShape board scans log
   pub bits : are_expected (filter is_compared (board_scans board scans)) log ≡ true
 
--- the data scans that compare some bit, in order; row `x` of a log belongs to scan `x` of this list
+-- the data scans that compare some bit, in the order of the test; row `x` of a log belongs to scan `x` of this list
 abbrev pub compared_scans : RawBoard → List RowScan → List RowScan
 compared_scans board scans = filter (λ scan. is_compared (scan_of_row board scan)) scans
 
--- The scans compare `width` rows of each pass, pass by pass. Scan `x * width + j` compares row `j` of pass `x` and shifts in the next row.
+-- The scans compare `width` rows of each pass, pass by pass. Scan `x * width + j` compares row `j` of pass `x` and
+-- shifts in the next row of the pass, or the quiet row (`quiet_row`) after the last one.
 pub record CompareRows (rows : List Ctl → ℕ → TestRow) (width : ℕ) (passes : List (List Ctl)) (scans : List RowScan) : Type 0 where
   pub count : length scans ≡ length passes * width
   pub each : (x : ℕ) (pass : List Ctl) (j : ℕ) → slice_get passes x ≡ Some pass → j < width →
@@ -102,7 +103,8 @@ abbrev pub Follow : TestRow → List RowScan → Type 0
 Follow row [] = Unit {0}
 Follow row (scan ∷ scans) = (scan.before ≡ row) × Follow scan.now scans
 
--- Each scan compares the row that is in the latches, and the setting of every compared row is safe.
+-- Each scan compares the row that is in the latches: the first scan compares the quiet row, and each later scan
+-- compares the row that the previous scan shifted in. The setting of every row that a compared scan compares is safe.
 pub record AreInTurn (board : RawBoard) (scans : List RowScan) : Type 0 where
   pub follow : Follow quiet_row scans
   pub safe : (x : ℕ) (scan : RowScan) → slice_get (compared_scans board scans) x ≡ Some scan → IsSafe board scan.before.setting

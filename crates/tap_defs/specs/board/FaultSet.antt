@@ -31,8 +31,8 @@ pub record IsFaultSet (board : RawBoard) (faults : FaultSet) : Type 0 where
   pub covered : (n k : ℕ) → faults.short n ≡ Some k → IsCovered board n
   pub dominant : (n k d : ℕ) → faults.short n ≡ Some k → faults.kind k ≡ Dominant d → faults.short d ≡ Some k
 
--- The fault set is observable: each stuck net is covered, each open pin is tested as a driver or as a receiver, and each short has two
--- paired nets.
+-- The faults are an observable fault set of the board: they are a fault set of the board, each stuck net is covered,
+-- each open pin is tested as a driver or as a receiver, and each short has two paired nets.
 pub record IsObservable (board : RawBoard) (faults : FaultSet) : Type 0 where
   pub is_set : IsFaultSet board faults
   pub stuck : (n : ℕ) (v : Bool) → faults.stuck n ≡ Some v → IsCovered board n

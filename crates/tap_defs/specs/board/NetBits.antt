@@ -114,7 +114,7 @@ abbrev pub held_if : Option Bool → Option Bool → Option Bool
 held_if None pull = None
 held_if (Some constant) pull = pull
 
--- the pull that holds the net; it holds a net that has no live driver, or whose only live driver is open
+-- the pull that holds the net; it holds a ruled net that has no live driver, or whose only live driver is open
 abbrev pub held : FaultSet → ℕ → Option Bool → Feeding → Option Bool
 held faults n pull Unruled = None
 held faults n pull Undriven = pull
@@ -198,7 +198,8 @@ first_combined kind [] [] free = free
 first_combined kind [] (pull ∷ pulls) free = combined kind (pull ∷ pulls)
 first_combined kind (bit ∷ bits) pulls free = combined kind (bit ∷ bits)
 
--- the bit of short `k`, which is free if one of its nets is not ruled or has several live drivers
+-- The bit of short `k`. It is free if one of its nets is not ruled or has several live drivers, or if none of its nets
+-- is fed or held.
 abbrev pub short_bit : RawBoard → FaultSet → List PinState → Bool → ℕ → Bool
 short_bit board faults states free k =
     let nets : List (OfNet Net) = shorted_nets faults k 0 board.nets in
@@ -251,8 +252,8 @@ read_at board faults states shorts free (Some p) =
 abbrev pub reads_pin : RawBoard → List PinState → PinAt → Bool
 reads_pin board states at = receives_where board (Some at) && not (live_where board states (Some at))
 
--- the bit that a cell captures from the pin at this port bit of the part; a free bit if the pin is not a receiver, or
--- is a live driver
+-- the bit that a cell captures from the pin at this port bit of the part; a free bit if the pin is not a receiver, is a
+-- live driver, or is on no net
 abbrev pub read_bit : RawBoard → FaultSet → List PinState → (ℕ → Bool) → Bool → ℕ → Option ℕ → Bool
 read_bit board faults states shorts free part None = free
 read_bit board faults states shorts free part (Some b) =

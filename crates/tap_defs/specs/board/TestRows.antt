@@ -48,12 +48,12 @@ code_of_net board passes n = suc (count_by (is_observed board passes) (take n bo
 abbrev pub observed_count : RawBoard → List (List Ctl) → ℕ
 observed_count board passes = count_by (is_observed board passes) board.nets
 
--- the code width of `n` codes: the smallest `w` for which `2 ^ w` is at least `n + 2`, so that no code has only zeros
--- or only ones
+-- the code width of `n` codes: the smallest `w` for which `2 ^ w` is at least `n + 2`, so that no code from 1 to `n`
+-- has only zeros or only ones
 abbrev pub code_width : ℕ → ℕ
 code_width n = unwrap_or (find (λ w. nat_le (n + 2) (2 ^ w)) (range_with_len 0 (n + 2))) 0
 
--- `width` is the smallest width at which no code from 1 to `n` has only zeros or only ones
+-- `width` is the smallest `w` for which `2 ^ w` is at least `n + 2`
 pub record IsCodeWidth (n width : ℕ) : Type 0 where
   pub enough : n + 2 ≤ 2 ^ width
   pub least : (less : ℕ) → less < width → 2 ^ less < n + 2

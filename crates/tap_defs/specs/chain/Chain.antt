@@ -26,7 +26,6 @@ abbrev pub chain_tdo : List ChainPart → (ℕ → FreeBits) → Bool → Bool
 chain_tdo [] free tdi = tdi
 chain_tdo (p ∷ parts) free tdi = chain_tdo parts (λ k. free (suc k)) (part_tdo (free 0) tdi p.state)
 
--- the test logic of each part
 abbrev pub logics : List ChainPart → List TestLogic
 logics parts = map (λ p. p.logic) parts
 

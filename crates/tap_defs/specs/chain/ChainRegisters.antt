@@ -24,7 +24,8 @@ data_register s = selected_by s.current s.boundary s.bypass s.identification
 abbrev pub data_registers : List ChainPart → List (List Bool)
 data_registers parts = map (λ p. data_register p.state) parts
 
--- the bits that a part holds after Update-DR: its latches, its bypass bit, or its identification register
+-- the bits that a part holds after Update-DR under its current instruction: its latches, its bypass bit, or its
+-- identification register
 abbrev pub held_bits : PartState → List Bool
 held_bits s = selected_by s.current s.latches s.bypass s.identification
 
@@ -60,13 +61,13 @@ ir_captures free (p ∷ parts) = captured_ir p.state.ir (free 0).ir ∷ ir_captu
 abbrev pub bits_at_pins : Wiring → Choice → List ChainPart → ℕ → List Bool
 bits_at_pins wiring choice parts = wiring (pin_states parts) choice
 
--- The bits that a data scan captures. The controllers are in Capture-DR before the third clock of the scan, whose
--- choice is `choices 2`.
+-- The bits that a data scan captures. The controllers are in Capture-DR before the third clock of the scan. `choices 2`
+-- is the choice of that clock.
 abbrev pub data_captured : Wiring → Choices → List ChainPart → List (List Bool)
 data_captured wiring choices parts = dr_captures (bits_at_pins wiring (choices 2) parts) (choices 2).parts parts
 
--- The bits that an instruction scan captures. The controllers are in Capture-IR before the fourth clock of the scan,
--- whose choice is `choices 3`.
+-- The bits that an instruction scan captures. The controllers are in Capture-IR before the fourth clock of the scan.
+-- `choices 3` is the choice of that clock.
 abbrev pub codes_captured : Choices → List ChainPart → List (List Bool)
 codes_captured choices parts = ir_captures (choices 3).parts parts
 

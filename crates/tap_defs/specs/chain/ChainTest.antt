@@ -14,8 +14,9 @@ pub record AreIrLengths (lengths : List ℕ) : Type 0 where
   pub some : 1 ≤ length lengths
   pub wide : All (λ n. 2 ≤ n) lengths
 
--- The text has a meaning. It passes on every chain of parts with these lengths, described or not. It fails on every chain of one or more
--- parts that has another number of parts and no more instruction bits in total. Both are true whatever the pins capture.
+-- The text has a meaning. It passes on every chain of parts with these instruction lengths, described or not. It fails
+-- on every chain that has another number of parts, at least one, each with two or more instruction bits, and no more
+-- instruction bits in total. Both are true whatever the pins capture.
 pub record IsChainTest (lengths : List ℕ) (text : List ℕ) : Type 0 where
   pub clocks : List Clock
   pub means : meaning text ≡ Some clocks

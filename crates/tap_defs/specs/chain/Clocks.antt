@@ -35,7 +35,7 @@ clocks_by false bits = sdr_clocks bits
 abbrev pub scan_clocks : Scan → List Clock
 scan_clocks scan = clocks_by scan.ir scan.bits
 
--- the clocks of scans, in order
+-- the clocks of these scans, in the order of the scans
 abbrev pub all_clocks : List Scan → List Clock
 all_clocks [] = []
 all_clocks (s ∷ scans) = scan_clocks s ++ all_clocks scans
@@ -48,6 +48,6 @@ reset_clocks = plain true ∷ plain true ∷ plain true ∷ plain true ∷ plain
 abbrev pub head_clocks : List Clock
 head_clocks = reset_clocks ++ plain false ∷ []
 
--- the clocks of the head, of the scans and of the tail
+-- the clocks of a test: STATE RESET and STATE IDLE, then the scans, then STATE RESET
 abbrev pub test_clocks : List Scan → List Clock
 test_clocks scans = head_clocks ++ (all_clocks scans ++ reset_clocks)

@@ -21,7 +21,7 @@ pub record PinState : Type 0 where
   pub current : Instruction
   pub latches : List Bool
 
--- the visible state of a part in this state
+-- the visible state of a part that has the state `s`
 abbrev pub pin_state : PartState → PinState
 pin_state s = record { current = s.current; latches = s.latches }
 
@@ -33,7 +33,8 @@ pub record FreeBits : Type 0 where
   pub latches : ℕ → Bool
   -- TDO outside the shift states
   pub tdo : Bool
-  -- For a part whose instruction in Test-Logic-Reset is not known: whether this instruction is another one than BYPASS.
+  -- Used only for a part whose instruction in Test-Logic-Reset is not known: true if that instruction is another one
+  -- than BYPASS.
   pub other : Bool
 
 -- The part after the old state has acted. Under EXTEST, Capture-DR loads the bits that the pins give the boundary
@@ -60,7 +61,7 @@ tdo_in ShiftDR Bypass free tdi s = s.bypass
 tdo_in ShiftDR Idcode free tdi s = shifted_out s.identification tdi
 tdo_in _ _ free tdi s = free.tdo
 
--- the part after the new state has acted, which changes the current instruction or the latches
+-- the part after the new state has acted, which may change the current instruction or the latches
 abbrev pub new_state_acts : TapState → Instruction → TestLogic → FreeBits → PartState → PartState
 new_state_acts UpdateIR i logic free s = record s { current = instruction_of logic s.ir }
 new_state_acts UpdateDR Extest logic free s = record s { latches = s.boundary }
@@ -80,7 +81,7 @@ part_after logic pins free tms tdi s =
 abbrev pub part_tdo : FreeBits → Bool → PartState → Bool
 part_tdo free tdi s = tdo_in s.tap s.current free tdi s
 
--- each register has the length that the part's test logic gives
+-- each register, and the list of the latches, has the length that the part's test logic gives
 pub record IsStateOf (logic : TestLogic) (s : PartState) : Type 0 where
   pub ir : length s.ir ≡ logic.ir_length
   pub boundary : length s.boundary ≡ logic.boundary_length

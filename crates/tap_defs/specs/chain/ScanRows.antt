@@ -1,5 +1,5 @@
--- The three rows of a scan in code: conditions on their bits and their room, and the condition that a call leaves them
--- the same rows.
+-- Conditions on the rows TDI, TDO and MASK of a scan: which bits they have, which room they have, and whether a call
+-- leaves the same three rows borrowed with the same room.
 use Rattle.std.specs.Prelude.{◌≡◌, ℕ, ◌≤◌, Bool, List, length}
 use Rattle.tap_defs.specs.declared.scan.ScanRows.{ScanRows}
 use Rattle.tap_defs.specs.declared.scan.StoredRows.{StoredRows}

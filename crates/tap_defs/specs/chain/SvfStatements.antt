@@ -38,7 +38,7 @@ fields_from (Some f) _ = None
 abbrev pub field_bits_of : List ℕ → ℕ → Field → Option (List Bool)
 field_bits_of name n field = if bytes_eq field.name name then field_bits n field.digits else None
 
--- the bits of a scan from the bits of its three fields
+-- the bits of a scan from the bits of its fields TDI, TDO and MASK, or None if one of the three has no value
 abbrev pub bits_of_three : Option (List Bool) → Option (List Bool) → Option (List Bool) → Option (List ScanBit)
 bits_of_three (Some tdi) (Some tdo) (Some mask) = Some (scan_bits tdi tdo mask)
 bits_of_three _ _ _ = None

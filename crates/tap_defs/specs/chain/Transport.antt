@@ -25,8 +25,9 @@ abbrev pub data_frame : ChainPart → DataFrame
 data_frame p = record { logic = p.logic; current = p.state.current; ir = p.state.ir }
 
 -- The effect of a data scan that captures the bits `captured`. Its shift clocks output `leaving` at TDO, and its other
--- clocks compare nothing. Afterwards the chain holds `staying`, in registers of the captured lengths. The instructions
--- do not change, and the controllers are in Run-Test/Idle again.
+-- clocks compare nothing. Afterwards the chain holds `staying`, and each part holds as many bits as it captured. The
+-- test logic, the current instruction and the instruction register of each part do not change, and the controllers are
+-- in Run-Test/Idle again.
 pub record ScansData (bits : List ScanBit) (captured : List (List Bool))
     (leaving staying tdo : List Bool) (before after : List ChainPart) : Type 0 where
   pub leaves : take (length bits) (drop 3 tdo) ≡ leaving
@@ -56,7 +57,7 @@ code_frame p = record {
 
 -- The effect of an instruction scan. Its shift clocks output `leaving` at TDO, and its other clocks compare nothing.
 -- Afterwards the instruction registers hold `staying`, and each part has the instruction of the code in its register.
--- The controllers are in Run-Test/Idle again.
+-- No other register, no latch and no length changes, and the controllers are in Run-Test/Idle again.
 pub record ScansCodes (bits : List ScanBit) (leaving staying tdo : List Bool) (before after : List ChainPart) : Type 0 where
   pub leaves : take (length bits) (drop 4 tdo) ≡ leaving
   pub compares : run_passes (sir_clocks bits) tdo ≡ scan_passes bits leaving
@@ -66,8 +67,9 @@ pub record ScansCodes (bits : List ScanBit) (leaving staying tdo : List Bool) (b
   pub frames : map code_frame after ≡ map code_frame before
   pub idle : AllIn RunTestIdle after
 
--- A data scan that is exactly as long as the registers. All captured bits come out, and the chain then holds the bits
--- that were shifted in.
+-- A data scan from Run-Test/Idle that has some bits and is exactly as long as the selected registers together. Each
+-- instruction selects a register of the model. All captured bits come out, and the chain then holds the bits that were
+-- shifted in.
 abbrev pub DataTransport : Type 0
 DataTransport =
     (wiring : Wiring) (bits : List ScanBit) (choices : Choices) (parts : List ChainPart) →
@@ -78,8 +80,9 @@ DataTransport =
     (tdos wiring (sdr_clocks bits) choices parts) parts
     (run wiring (sdr_clocks bits) choices parts)
 
--- A data scan of any length `n`. Let `stream` be the captured bits followed by the bits that are shifted in. Its first
--- `n` bits come out, and the chain then holds the others.
+-- A data scan from Run-Test/Idle of any length `n` except 0. Each instruction selects a register of the model. Let
+-- `stream` be the captured bits followed by the bits that are shifted in. Its first `n` bits come out, and the chain
+-- then holds the others.
 abbrev pub LongDataTransport : Type 0
 LongDataTransport =
     (wiring : Wiring) (bits : List ScanBit) (choices : Choices) (parts : List ChainPart) →
@@ -89,8 +92,8 @@ LongDataTransport =
     ScansData bits captured (take (length bits) stream) (drop (length bits) stream)
     (tdos wiring (sdr_clocks bits) choices parts) parts (run wiring (sdr_clocks bits) choices parts)
 
--- An instruction scan that is exactly as long as the instruction registers, under any current instructions. All
--- captured bits come out, and each part then has the instruction of its code.
+-- An instruction scan from Run-Test/Idle, under any current instructions, that has some bits and is exactly as long as
+-- the instruction registers together. All captured bits come out, and each part then has the instruction of its code.
 abbrev pub CodeTransport : Type 0
 CodeTransport =
     (wiring : Wiring) (bits : List ScanBit) (choices : Choices) (parts : List ChainPart) →
@@ -98,8 +101,9 @@ CodeTransport =
     ScansCodes bits (joined (codes_captured choices parts)) (tdi_bits bits)
     (tdos wiring (sir_clocks bits) choices parts) parts (run wiring (sir_clocks bits) choices parts)
 
--- An instruction scan of any length `n`. Let `stream` be the captured bits followed by the bits that are shifted in.
--- Its first `n` bits come out, and the instruction registers then hold the others.
+-- An instruction scan from Run-Test/Idle, under any current instructions, of any length `n` except 0. Let `stream` be
+-- the captured bits followed by the bits that are shifted in. Its first `n` bits come out, and the instruction
+-- registers then hold the others.
 abbrev pub LongCodeTransport : Type 0
 LongCodeTransport =
     (wiring : Wiring) (bits : List ScanBit) (choices : Choices) (parts : List ChainPart) →
