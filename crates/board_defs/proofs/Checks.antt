@@ -51,7 +51,7 @@ pairs_by R test gives (x ∷ xs) h (suc i) (suc j) d less within =
     pairs_by R test gives xs (and_parts (list_all (test x) xs) (later_pass test xs) h).1 i j d
     (omega arith) (omega arith)
 
--- if no item clashes with a later one, two items that clash are the same item
+-- If no item clashes with a later one, two items that clash in both orders are at the same place.
 pub one_by : {X : Type 0} (clash : X → X → Bool) (xs : List X)
     → later_pass (λ x y. not (clash x y)) xs ≡ true → (i j : ℕ) (x y : X) → slice_get xs i ≡ Some x
     → slice_get xs j ≡ Some y → clash x y ≡ true → clash y x ≡ true → i ≡ j

@@ -1,4 +1,4 @@
--- Which items the lists have that `map`, `filter` and other list functions return.
+-- Lemmas about the items of the lists that `map`, `filter` and other list functions return.
 use Rattle.std.proofs.Common.{◌≡◌, ℕ, zero, suc, ◌+◌, ◌<◌, ◌≤◌, Bool, true, false, List, [], ◌∷◌, ◌++◌, map, get_or, Option, Some, None, refl, sym, ◌∙◌, ap, subst, arith, cond, ◌⊎◌, inl, inr}
 use Rattle.std.specs.Prelude.{slice_get, filter, filter_map, find, All, Contains}
 use Rattle.std.specs.List.{list_any, list_all, cons_option, flat_map, enumerate_from, range_with_len}

@@ -46,8 +46,8 @@ order_append {X} R (x ∷ xs) ys h k across = (
     by_part y (inl m) = h.0 y m
     by_part y (inr m) = across x y (inl refl) m
 
--- If `f` gives an ordered list for each item, and the items of `f x` precede those of `f z` whenever `x` precedes `z`, the joined lists
--- are in order.
+-- If a list is in order, `f` gives an ordered list for each of its items, and the items of `f x` precede those of `f z`
+-- whenever `x` precedes `z`, then the joined lists are in order.
 pub order_flat_map : {X Y : Type 0} (S : X → X → Type 0) (R : Y → Y → Type 0) (f : X → List Y)
     (xs : List X) → InOrder S xs → ((x : X) → Has xs x → InOrder R (f x)) →
     ((x z : X) → S x z → (a b : Y) → Has (f x) a → Has (f z) b → R a b) → InOrder R (flat_map f xs)

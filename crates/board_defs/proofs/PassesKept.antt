@@ -185,7 +185,7 @@ useful_safe board c h =
     (and_parts (is_safe_alone board c) (list_any (tests_by board c) board.nets)
     (filter_has (is_useful board) (all_cells board) c h).1).0
 
--- `drivers` is the list of the tested drivers of net `n`
+-- `drivers` lists the ways in which the tested drivers of net `n` are enabled
 pub record OfNet (board : RawBoard) (n : ℕ) (drivers : List Drive) : Type 0 where
   pub net : Net
   pub on_board : slice_get board.nets n ≡ Some net
@@ -202,7 +202,7 @@ pub in_nets : (board : RawBoard) (n : ℕ) (net : Net) → slice_get board.nets 
     → slice_get (drivers_by_net board) n ≡ Some (tested_drivers board net)
 in_nets board n net e = slice_get-map (tested_drivers board) board.nets n ∙ ap (option_map (tested_drivers board)) e
 
--- the driver is a tested driver of the board
+-- `d` is the way in which some tested driver of the board is enabled
 pub record OnBoard (board : RawBoard) (d : Drive) : Type 0 where
   pub n : ℕ
   pub net : Net
@@ -274,7 +274,8 @@ good_drivers board rules =
     (λ passes d good o. good_driver board (useful_controls board) passes d rules
     (useful_safe board) good o) (all_drivers board) [] (driver_on_board board) (good_none board)
 
--- the two lists are the tested drivers of two nets, and the first net has the lower number
+-- the two lists have the ways in which the tested drivers of two nets are enabled, and the first net has the lower
+-- number
 pub record OfNets (board : RawBoard) (nets : List Drive × List Drive) : Type 0 where
   pub low : ℕ
   pub high : ℕ

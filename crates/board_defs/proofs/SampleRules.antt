@@ -17,8 +17,9 @@ use Rattle.board_defs.specs.DeviceRules.{HasTap, PortPinsDiffer, HasPlace, MayHa
 use Rattle.board_defs.specs.BoardRules.{IsPart, PinsDiffer, IsPlaced, AreInertAlike, IsBoard}
 use Rattle.board_defs.proofs.Samples.{port_bit, entry, control, by, device, rcv, ts, pin, net, board}
 
--- A device that keeps every rule except perhaps those on instruction codes. The samples break the rules on the length of a code, on X, on
--- codes of only ones, and on the zeros of EXTEST in the old edition.
+-- A device that keeps every rule except perhaps those on instruction codes. The samples break the rules on the length
+-- of a code, on X, on codes of only ones, on equal codes, on the zeros of EXTEST in the old edition, and on the length
+-- of an identification pattern.
 abbrev with_codes : List Symbol → List Symbol → RawDevice
 with_codes sample extest = record ts { sample = sample; extest = extest }
 
@@ -49,7 +50,8 @@ one_code rules = rules.codes_differ refl
 short_idcode : HasCodes (record ts { idcode = Some (replicate 31 One) }) → ⊥
 short_idcode rules = let short = rules.idcode_length in omega (arith, short)
 
--- A port bit of a test access port. Such a port must have one output and three or four inputs, all plain.
+-- A port bit of the test access port. The test access port must have one output and three or four inputs, and all of
+-- them must be plain ports.
 abbrev tap : ℕ → Mode → PortBit
 tap port mode = port_bit port None mode (Some (codes "P")) true
 

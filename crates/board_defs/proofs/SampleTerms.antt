@@ -237,7 +237,7 @@ control_inserted = refl
 control_there : inserted (c 1 2) (c 0 9 ∷ c 1 2 ∷ c 1 3 ∷ []) ≡ c 0 9 ∷ c 1 2 ∷ c 1 3 ∷ []
 control_there = refl
 
--- the single faults of two paired nets, in order
+-- the single faults of two paired nets, in the order of `singles`
 abbrev couple : RawBoard
 couple = board (ts ∷ ts ∷ rcv ∷ []) (net 0 None (pin 0 0 ∷ pin 2 0 ∷ []) ∷ net 1 None (pin 1 0 ∷ pin 2 1 ∷ []) ∷ [])
 

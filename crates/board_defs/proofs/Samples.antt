@@ -255,7 +255,7 @@ no_pull = refl
 one_sided_passes : passes_of (pull None) ≡ []
 one_sided_passes = refl
 
--- the single faults of the pulled net, in order
+-- the single faults of the pulled net, in the order of `singles`
 switching_faults : singles (pull (Some true))
     ≡ StuckNet 0 false ∷ StuckNet 0 true ∷ OpenPin (at 0 0) false ∷ OpenPin (at 0 0) true
     ∷ OpenPin (at 0 1) false ∷ OpenPin (at 0 1) true ∷ []

@@ -1,5 +1,5 @@
--- The terms of coverage: covered and paired nets, tested pins, useful controls, and the reasons why a net is not covered. Most of the
--- terms ask for some safe setting.
+-- The terms of coverage: covered and paired nets, tested pins, useful controls, and the reasons why a net is not
+-- covered. Most of the terms mean that there is a safe setting with some property.
 use Rattle.std.specs.Prelude.{◌≡◌, ◌≢◌, ◌<◌, ℕ, true, false, Some, None, slice_get}
 use Rattle.std.specs.List.{list_any}
 use Rattle.board_defs.specs.declared.board.NetPin.{NetPin}

@@ -143,7 +143,8 @@ abbrev pub or_entry : Option Cell → Option Cell → Option Cell
 or_entry None second = second
 or_entry (Some first) second = Some first
 
--- the safe value of a cell: that of the entry for its update latch if there is one, otherwise that of its reading entry
+-- the safe value of a cell: that of the entry for its update latch if there is one, otherwise that of its reading
+-- entry; None if it has neither
 abbrev pub safe_value : RawDevice → ℕ → Option Symbol
 safe_value device cell = option_map (λ entry. entry.safe) (or_entry (writing_entry device cell) (reading_entry device cell))
 
@@ -182,13 +183,15 @@ AreIndexed bits =
     ⊎ ((left : ℕ) × (right : ℕ)
     × (map (λ bit. bit.index) bits ≡ map Some (range_indexes left right)))
 
--- the bits of one port have one mode, and the pin map assigns pins to all of them or to none
+-- The bits of one port: a single bit without an index, or the bits of a vector. All bits have one mode, and the pin map
+-- assigns pins to all of them or to none.
 pub record ArePort (bits : List PortBit) : Type 0 where
   pub indexed : AreIndexed bits
   pub one_mode : AllPairs (λ a b. a.mode ≡ b.mode) bits
   pub mapped_whole : AllPairs (λ a b. is_some a.pin ≡ is_some b.pin) bits
 
--- The port bits are in the order of their ports. No two ports have the same name, and each port has bits.
+-- Each port bit belongs to one of the device's ports, and the port bits are in the order of these ports. No two ports
+-- have the same name. The bits of each port make a plain port or a vector (`ArePort`).
 pub record AreOfPorts (device : RawDevice) : Type 0 where
   pub ports_differ : AllPairs (λ a b. a ≢ b) device.ports
   pub in_order : IsNonDecreasing (map (λ bit. bit.port) device.bits)

@@ -54,14 +54,15 @@ open_faults pin = OpenPin pin false ∷ OpenPin pin true ∷ []
 abbrev pub short_faults : ℕ → ℕ → List Single
 short_faults a b = Short a b And ∷ Short a b Or ∷ Short a b First ∷ Short a b Second ∷ []
 
--- the list of the board's single faults, in order
+-- the list of the board's single faults, in the order of single faults (`SinglePrecedes`)
 abbrev pub singles : RawBoard → List Single
 singles board =
     flat_map (λ net. stuck_faults net.0) (covered_nets board)
     ++ flat_map open_faults (tested_pins board)
     ++ flat_map (λ pair. short_faults pair.0.0 pair.1.0) (paired_nets board)
 
--- the fault is a single fault of the board: a covered net that is stuck, a tested pin that is open, or a short of paired nets
+-- the fault is a single fault of the board: a covered net that is stuck, a tested pin that is open, or a short of
+-- paired nets, the one with the lower number first
 abbrev pub IsSingle : RawBoard → Single → Type 0
 IsSingle board (StuckNet net value) = IsCovered board net
 IsSingle board (OpenPin pin value) = IsTestedDriver board pin.net pin.place ⊎ IsTestedReceiver board pin.net pin.place

@@ -21,8 +21,8 @@ use Rattle.board_defs.specs.Faults.{singles, SinglePrecedes, IsSingle}
 abbrev pub SafeByPairs : Type 0
 SafeByPairs = (board : RawBoard) (setting : Enabling) → IsBoard board → IsSafe board setting ↔ IsPairwiseSafe board setting
 
--- Each test of `Decided.antt` passes if and only if its term is true. The tests look only at single controls and at pairs of controls,
--- while most terms ask for some safe setting.
+-- Each test of `Decided.antt` passes if and only if its term is true. The tests look only at single controls and at
+-- pairs of controls, while most terms mean that there is a safe setting with some property.
 pub record DecidesTerms (board : RawBoard) : Type 0 where
   pub safe : (c : Ctl) → Decides (is_safe_alone board c) (IsSafe board (just c))
   pub together : (a b : Ctl) → Decides (are_together board a b) (AreTogether board a b)

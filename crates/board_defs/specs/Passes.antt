@@ -54,8 +54,8 @@ joins_setting board setting c = list_all (are_together board c) setting
 abbrev pub is_new : List (List Ctl) → Ctl → Bool
 is_new earlier c = not (list_any (λ pass. holds pass c) earlier)
 
--- Goes through the controls in order, starting from `setting`, and adds each control that `accepts` accepts for the setting so far. The
--- value is the final setting.
+-- Goes through the list `controls`, starting from `setting`, and adds each control that `accepts` accepts for the
+-- setting so far. The value is the final setting.
 abbrev pub walk : (List Ctl → Ctl → Bool) → List Ctl → List Ctl → List Ctl
 walk accepts controls setting = fold (λ s c. cond (accepts s c) (inserted c s) s) setting controls
 
@@ -89,11 +89,13 @@ shows drivers pass = list_any (is_enabled pass) drivers
 abbrev pub are_shown : List (List Ctl) → List Drive → List Drive → Bool
 are_shown passes a b = list_any (λ pass. shows a pass && shows b pass) passes
 
--- the pairs of an item of the first list and an item of the second, in order
+-- the pairs of an item of the first list and an item of the second, ordered by the place of the first item and then by
+-- that of the second
 abbrev pub pairs_of : {X : Type 0} → List X → List X → List (X × X)
 pairs_of xs ys = flat_map (λ x. map (λ y. (x, y)) ys) xs
 
--- the pairs of an item and a later item of the list, in order
+-- the pairs of an item and a later item of the list, ordered by the place of the first item and then by that of the
+-- later one
 abbrev pub pairs_within : {X : Type 0} → List X → List (X × X)
 pairs_within [] = []
 pairs_within (x ∷ xs) = map (λ y. (x, y)) xs ++ pairs_within xs

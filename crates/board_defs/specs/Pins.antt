@@ -110,7 +110,8 @@ is_dark board pin = is_dark_where board pin.at pin.inert
 abbrev pub guards : RawBoard → NetPin → Bool
 guards board pin = is_test_pin board pin || is_dark board pin
 
--- the net is guarded: no safe setting enables a controlled or a one-sided driver of it
+-- The net is guarded: it carries a supply, or one of its pins guards it. No safe setting enables a controlled or a
+-- one-sided driver of a guarded net.
 abbrev pub guarded : RawBoard → Net → Bool
 guarded board net = net.supply || list_any (guards board) net.pins
 

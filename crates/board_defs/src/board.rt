@@ -76,7 +76,7 @@ pub struct Ctl {
 }
 
 impl Ctl {
-    /// Returns whether the two values are the same control.
+    /// Returns whether both values name the same cell of the same part.
     pub fn is_same(self, other: Ctl) -> bool
         ensures { result ≡ same_ctl self other }
     {

@@ -44,7 +44,7 @@ impl Code {
         })
     }
 
-    /// Returns a copy of the code.
+    /// Returns a copy of the code. Fails only if memory runs out.
     pub fn copy(&self, alloc: Global) -> Result<Code, AllocError>
         ensures { IfOk result (λ code. code ≡ self.now) }
     {
@@ -67,7 +67,7 @@ impl Code {
         &self.symbols
     }
 
-    /// Returns the number of symbols.
+    /// Returns the number of symbols, which is less than 2^32.
     pub fn len(&self) -> u32
         ensures { result ≡ length self.now }
     {

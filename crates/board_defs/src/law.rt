@@ -6,20 +6,24 @@ ghost use Rattle.board_defs.specs.declared.board.RawBoard.{RawBoard};
 ghost use Rattle.board_defs.specs.Laws.{SafeByPairs, TermsDecided, PassesKept, SinglesListed};
 ghost use Rattle.board_defs.specs.Passes.{ArePasses};
 
-/// A setting is safe if and only if each of its controls alone and every two of its controls are safe.
+/// A setting of a board that keeps the rules of boards is safe if and only if each of its controls
+/// alone is a safe setting, and so are every two of its controls.
 pub fn safe_by_pairs()
     ensures { SafeByPairs }
 {}
 
-/// Tests of single controls and of pairs of controls decide the terms that ask for some safe setting: covered and
-/// paired nets, tested pins, useful controls, and the reasons why a net is not covered.
+/// Boolean tests, which look only at single controls and at pairs of controls, agree with the
+/// definitions of these terms: controls that are safe alone or together, useful controls, covered
+/// and paired nets, tested pins, and the reasons why a net is not covered.
 pub fn terms_decided()
     ensures { TermsDecided }
 {}
 
-/// Every pass of a board is safe. Together the passes enable each tested driver. For every two paired nets, some pass
-/// observes both. Each pass observes a net by some tested driver for the first time, or observes two paired nets
-/// together for the first time. The tests that choose the passes agree with the definitions of their terms.
+/// The passes of a board meet the requirements on passes (`ArePasses`). Every pass is safe. For
+/// each covered net, each two paired nets, each tested driver and each tested receiver, some pass
+/// observes or tests them. Each pass observes a net by some tested driver for the first time, or
+/// observes two paired nets together for the first time. The tests that choose the passes agree
+/// with the definitions of their terms.
 pub fn passes_kept()
     ensures { PassesKept }
 {}
@@ -30,7 +34,8 @@ pub fn singles_listed()
     ensures { SinglesListed }
 {}
 
-/// No two passes of a board are equal, since each pass does something that no earlier pass does.
+/// No two passes that meet the requirements on passes (`ArePasses`) are equal. Each of them is the
+/// first to observe some net by some tested driver, or some two paired nets together.
 pub fn passes_differ()
     ensures { (board : RawBoard) (passes : List (List Ctl)) (x y : ℕ) (pass : List Ctl)
         → ArePasses board passes → x < y → slice_get passes x ≡ Some pass

@@ -53,7 +53,7 @@ impl Name {
         })
     }
 
-    /// Returns a copy of the name.
+    /// Returns a copy of the name. Fails only if memory runs out.
     pub fn copy(&self, alloc: Global) -> Result<Name, AllocError>
         ensures { IfOk result (λ name. name ≡ self.now) }
     {
