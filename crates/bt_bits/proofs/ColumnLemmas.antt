@@ -31,7 +31,6 @@ digit_and j a b = ap (λ x. x % 2 ^ 4) (and_shr a b (4 * j)) ∙ and_mod (a / 2 
 digit_or : (j a b : ℕ) → digit_in j (bit_or a b) ≡ bit_or (digit_in j a) (digit_in j b)
 digit_or j a b = ap (λ x. x % 2 ^ 4) (or_shr a b (4 * j)) ∙ or_mod (a / 2 ^ (4 * j)) (b / 2 ^ (4 * j)) 4
 
--- If a computed test of all 16 digits finds that they are equal to `digit`, each of them is.
 pub same_digit : (word digit : ℕ)
     → agree_below (λ j. digit_in j word == digit) (λ _. true) 16 ≡ true → (j : ℕ) → j < 16
     → digit_in j word ≡ digit

@@ -220,8 +220,8 @@ pub fn fill_field(text: &[u8], len: usize, digits: &mut [u8]) -> bool
 }
 
 // Like `fill_field`, but replaces the content of a vector. The vector must have room for the
-// digits. If the text is not a field of `len` bits, the new content is the digits of `len` zero
-// bits.
+// digits, and `len` must be less than `2 ^ 63`. If the text is not a field of `len` bits, the new
+// content is the digits of `len` zero bits.
 pub fn read_field(text: &[u8], len: usize, digits: &mut Vec<u8>) -> bool
     requires few { len < 2 ^ 63 }
     requires digits { length text.now ≡ digit_count len }

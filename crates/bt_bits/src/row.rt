@@ -116,7 +116,7 @@ impl Row {
         &self.digits
     }
 
-    /// Returns the number of bits of the row.
+    /// Returns the number of bits of the row, which is at most the row's room.
     #[inline]
     pub fn len(&self) -> u32
         ensures value { result ≡ length self.now.bits }
