@@ -5,7 +5,7 @@ ghost use Rattle.std.specs.Borrow.{ftrue};
 
 use std::marker::Model;
 
-/// The names of the texts that were fetched so far, in order.
+/// The names of the texts that were fetched so far, in the order of the fetches.
 #[derive(Drop)]
 pub(crate) struct Asked {
     pub ghost names: { List (List ℕ) },

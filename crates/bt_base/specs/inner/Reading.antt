@@ -17,8 +17,9 @@ abbrev pub has_failed : {F E : Type 0} → Result (Watched F) E → Bool
 has_failed (Ok file) = file.failed
 has_failed (Err e) = true
 
--- `given` has bytes that the opened file had left. On Ok, it has all of them. If there are more than `cap` bytes, it
--- has the first `cap + 1`. The result is Failed if and only if the file could not be opened or a read failed.
+-- The bytes `given` that a fetch read from an opened file. On Ok, `given` has all bytes that the file had left. On
+-- TooLong, it has the first `cap + 1` of them. The result is Failed if and only if the file could not be opened or a
+-- read of it failed.
 pub record IsHandedOn {F E : Type 0} (remaining : F → Option (List ℕ)) (cap : ℕ)
     (opened left : Result (Watched F) E) (given : List ℕ) (result : Result ⊤ FetchFault) : Type 0
   where
