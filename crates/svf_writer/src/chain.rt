@@ -60,9 +60,9 @@ fn fill_marks(parts: u32, rows: &mut ScanRows)
     fill_ones(parts + MARKS, rows.mask);
 }
 
-// Sets the compared bits of one part's instruction register. The register's lowest bit is at
-// position `at`, and the two lowest bits are expected to be 01. Both rows must have these two
-// positions, and `at` must be at most `most_bits`.
+// Makes the rows compare one part's instruction register with 01: sets its lowest bit in the TDO
+// row and its two lowest bits in the mask row, and changes no other bit. The lowest bit is at
+// position `at`, which must be at most `most_bits`. Both rows must have these two positions.
 fn set_capture(at: u32, tdo: &mut Row, mask: &mut Row)
     requires few { at ≤ most_bits }
     requires tdo { at + 2 ≤ length tdo.old.bits }
@@ -77,7 +77,7 @@ fn set_capture(at: u32, tdo: &mut Row, mask: &mut Row)
     mask.set(at + 1, true);
 }
 
-// Sets the compared bits of the instruction registers of all parts, from the last part to the
+// Makes the rows compare the instruction register of each part with 01, from the last part to the
 // first. Each length must be at least 2, and their sum at most `most_bits`. Both rows must have a 0
 // for each bit of these registers.
 fn set_captures(lengths: &[u32], tdo: &mut Row, mask: &mut Row)
