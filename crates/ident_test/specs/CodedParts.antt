@@ -7,8 +7,8 @@ use Rattle.board_defs.specs.declared.device.RawDevice.{RawDevice}
 use Rattle.tap_defs.specs.chain.TestLogic.{TestLogic, Bypass, Idcode}
 use Rattle.tap_defs.specs.board.OnBoard.{test_logic}
 
--- A described part that has a pattern selects IDCODE in Test-Logic-Reset, and its identification
--- code has 32 bits. A described part that has no pattern selects BYPASS.
+-- A part with a pattern is coded if it selects IDCODE in Test-Logic-Reset and its identification code has 32 bits. A
+-- part without a pattern is coded if it selects BYPASS there.
 abbrev pub IsCoded : Option (List Symbol) → TestLogic → Type 0
 IsCoded (Some pattern) part = (part.at_reset ≡ Some Idcode) × (length part.idcode ≡ 32)
 IsCoded None part = part.at_reset ≡ Some Bypass

@@ -12,7 +12,8 @@ ghost use Rattle.ident_test.specs.Patterns.{ident_text};
 
 /// The SVF text of the identity test passes on each chain whose identification codes all fit their
 /// patterns, and fails on each chain with a code that does not fit. The chain may be in any state,
-/// and the pins may capture anything.
+/// and the pins may capture anything. There must be 1 to 255 parts, each pattern must have 32
+/// symbols, and the parts of the chain must be coded for the patterns (`AreCoded`).
 pub fn ident_tests()
     ensures { (patterns : List (Option (List Symbol))) → ArePatterns patterns
         → IsIdentTest patterns (ident_text patterns) }
@@ -25,8 +26,8 @@ pub fn parts_coded()
         → AreCoded (map (λ device. device.idcode) devices) (coded_parts devices codes) }
 {}
 
-/// If a text is an identity test for these patterns, each of its runs passes if and only if all
-/// codes fit their patterns.
+/// If a text is an identity test for these patterns, each of its runs on a chain of parts that are
+/// coded for the patterns passes if and only if all codes fit.
 pub fn each_run_tells()
     ensures { (patterns : List (Option (List Symbol))) (text : List ℕ) → IsIdentTest patterns text
         → EachRunTells patterns text }
