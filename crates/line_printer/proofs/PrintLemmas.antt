@@ -129,7 +129,7 @@ prints_put {T} {E} {old} {new} {p} {l} {a} {b} {r} put same empty = by r put
       cause = put.cause;
     }
 
--- A call that prints a nonempty text, and has an empty line before and after it, writes the text to the sink.
+-- If the line is empty before and after a call that prints a nonempty text, the call writes the text to the sink.
 pub puts_of : {T E : Type 0} {old new : Shown} {c : ℕ} {a : List ℕ} {r : Result T E}
     → Prints old new [] [] (c ∷ a) r → Puts old new (c ∷ a) r
 puts_of {T} {E} {old} {new} {c} {a} {r} prints = by r prints

@@ -24,8 +24,9 @@ abbrev pub Moves : Shown → Shown → List ℕ → List ℕ → List ℕ → Ty
 Moves old new before after text =
     ((new ≡ old) × (after ≡ before ++ text)) ⊎ ((put : List ℕ) × Takes old new put × (put ++ after ≡ before ++ text))
 
--- On Ok, the sink took the whole text or its end is still in the line. On Err, the sink's fault count rose, and the
--- sink took a prefix of the line's bytes followed by the text.
+-- The contract of a call that prints `text`. On Ok, the sink took the line's old bytes and the text, except for an end
+-- of them that is still in the line. On Err, the sink's fault count rose, and the sink took a prefix of the line's old
+-- bytes followed by the text. The fault count never falls.
 pub record Prints {T E : Type 0} (old new : Shown) (before after text : List ℕ) (result : Result T E) : Type 0 where
   pub whole : OnOk result (Moves old new before after text)
   pub cut : OnErr result ((k : ℕ) × Takes old new (take k (before ++ text)))

@@ -48,7 +48,7 @@ pub fn print<K: Sink>(text: &[u8], line: &mut Line, out: &mut K) -> Result<(), P
     print_parts(text, line, out)
 }
 
-/// Appends the pieces to the line in order, like `print` does.
+/// Appends the pieces to the line in order, each like `print` does.
 pub fn print_all<K: Sink>(pieces: &[&[u8]], line: &mut Line, out: &mut K) -> Result<(), PutFault>
     ensures { Prints (K.shown out.old) (K.shown out.new) line.old line.new
         (whole (map (λ p. p.now) pieces.now)) result }
@@ -59,8 +59,8 @@ pub fn print_all<K: Sink>(pieces: &[&[u8]], line: &mut Line, out: &mut K) -> Res
     Ok(())
 }
 
-/// Replaces the line by these pieces, which are appended like `print` does. The old content of the
-/// line is lost.
+/// Empties the line and then appends the pieces, like `print_all` does. The old content of the line
+/// is lost.
 pub fn begin_line<K: Sink>(pieces: &[&[u8]], line: &mut Line, out: &mut K) -> Result<(), PutFault>
     ensures { Prints (K.shown out.old) (K.shown out.new) [] line.new
         (whole (map (λ p. p.now) pieces.now)) result }
