@@ -1,4 +1,5 @@
--- Lemmas which say that the outcome that the files of a command give is the outcome that the clauses of `run` state.
+-- Lemmas which say that the outcome that the files of a command give (`GivesOutcome`) is the outcome that the contract
+-- of `run` states (`IsOutcome`).
 use Rattle.std.proofs.Common.{◌≡◌, ◌∙◌, List, [], ◌∷◌, Result, Ok, Err, refl, sym, ap, inl, inr}
 use Rattle.std.specs.Prelude.{Bool, codes}
 use Rattle.board_defs.specs.declared.board.RawBoard.{RawBoard}

@@ -1,4 +1,4 @@
--- Lemmas which turn the clauses of `run` into facts about a run of a command.
+-- Lemmas which turn the contract of `run` (`IsRun`) into facts about a run of one command.
 use Rattle.std.proofs.Common.{◌≡◌, ◌≢◌, ◌⊎◌, ◌∙◌, List, Option, Some, Result, Ok, Err, sym, ap, subst, inl, inr}
 use Rattle.std.specs.Prelude.{IfSome}
 use Rattle.bt_base.specs.Counts.{Rose}
@@ -41,7 +41,7 @@ pub apart : {s : Status} (a b : Status) → s ≡ a → s ≡ b → (a ≡ b →
 apart a b one other differ = differ (sym one ∙ other)
 
 module _ (run : Run) (is : IsRun run) (command : Command) (asks : HasWordsOf run command) where
-  -- if a clause of `run` states P of the command that the words ask for, P holds for `command`
+  -- `command` is the command that the words of the run form, so what holds for that command holds for `command`
   pub here : (P : Command → Type 0) → IfSome (command_of run.words) P → P command
   here P all = subst (λ (c : Option Command). IfSome c P) (command_is run command asks) all
 

@@ -288,7 +288,8 @@ module _ (text : Text) (short : length text ≤ 4194304) where
       (is_device (run_of device_words holding status asked out notes) command (refl, refl)
       asks) gives)
 
-  -- The file has a first fault, and the line of this fault is not empty. The run must be refused with this line.
+  -- Samples of refusals. If the file has no fault, the status must not be Refused. If it has a first fault, whose line
+  -- is not empty, the run must be refused with this line.
 
   refused_without_fault : ((line : Text) → GivesOutcome device (text ∷ []) (Err line) → ⊥)
       → TellsFault (run_of device_words holding Refused b_asked [] (1 ∷ [])) → ⊥

@@ -15,8 +15,8 @@ use Rattle.btest_core.specs.BoardRead.{Denotes}
 use Rattle.commands.specs.LogRead.{test_blocks, test_log, walk_log}
 use Rattle.command_line.specs.Words.{Text}
 
--- The lines with words are these rows. A row is one word, whose hexadecimal digits have a bit for each position of a data scan. There is a
--- row for each SDR statement of these scans that compares, in order.
+-- The lines with words are these rows. A row is one word, whose hexadecimal digits have a bit for each position of a
+-- data scan. There is a row for each SDR statement of these scans that compares, in the order of the statements.
 pub record HoldsLog (board : RawBoard) (scans : List RowScan) (text : Text) (rows : List (List Bool)) : Type 0 where
   pub lines : map (bits_of_line (data_bits board)) (row_lines text) ≡ map Some rows
   pub shape : HasShape board scans rows

@@ -47,8 +47,9 @@ use Rattle.promises.specs.Runs.{Run, HasWordsOf, AsksNothing, RunsOn, HoldsEach,
 use Rattle.promises.specs.Gives.{GivesOutcome, summary}
 use Rattle.promises.specs.Logs.{HoldsLog, HoldsBoardBlocks}
 
--- `chain`: the text has a meaning. It passes on every chain of parts with the instruction lengths of the files. It fails on every chain of
--- one or more parts that has another number of parts and no more instruction bits. Both are true whatever the pins capture.
+-- `chain`: the text has a meaning. It passes on every chain of parts with the instruction lengths of the files. It
+-- fails on every chain that has another number of parts, at least one, each with two or more instruction bits, and no
+-- more instruction bits in total. Both are true whatever the pins capture.
 abbrev pub TestsChain : Run → Type 0
 TestsChain run =
     (names : ChainNames) (chain : Text) (bsdl : List Text) (lengths : List ℕ)
@@ -121,8 +122,9 @@ pub record HasResponses (board : RawBoard) : Type 0 where
   pub some : (single : Single) → IsSingle board single → (log : List (List Bool)) × Explains board single log
   pub one : (single : Single) (log other : List (List Bool)) → Explains board single log → Explains board single other → AgreeOn board (svf_row_scans board) log other
 
--- `pass` is true if and only if each compared bit of the log is the expected bit. If `pass` is true, `faults` is empty. `faults` has each
--- single fault that explains the log, once and in order, and no other fault.
+-- `pass` is true if and only if each compared bit of the log is the expected bit. If `pass` is true, `faults` is empty.
+-- `faults` has each single fault that explains the log, once and in the order of single faults (`SinglePrecedes`), and
+-- no other fault.
 pub record IsDiagnosed (board : RawBoard) (log : List (List Bool)) (pass : Bool) (faults : List Single) : Type 0 where
   pub passes : Decides pass (IsExpected board (svf_row_scans board) log)
   pub none : pass ≡ true → faults ≡ []
@@ -148,8 +150,8 @@ RestsOnLog run =
     RunsOn run (Diagnose workers name names) (log ∷ chain ∷ nets ∷ bsdl) → (run.status ≡ Done) ⊎ (run.status ≡ WriteFault) →
     (board : RawBoard) × Denotes chain nets bsdl board × (rows : List (List Bool)) × HoldsLog board (svf_row_scans board) log rows
 
--- `batch`: if the file holds blocks with logs of the board's test, the printed text has a title and a diagnosis for each block, in order.
--- The diagnosis of a block depends on the block's log alone.
+-- `batch`: if the file holds blocks with logs of the board's test, the printed text has a title and a diagnosis for
+-- each block, in the order of the blocks. The diagnosis of a block depends on the block's log alone.
 abbrev pub DiagnosesBlocks : Run → Type 0
 DiagnosesBlocks run =
     (workers : ℕ) (name : Text) (names : BoardNames) (logs chain nets : Text) (bsdl : List Text) (board : RawBoard) (blocks : List Block) →
@@ -198,8 +200,9 @@ TellsUsage run =
     → ((run.status ≡ Usage) ⊎ (run.status ≡ NoMemory)) × (run.new.asked ≡ run.old.asked)
     × (run.new.unread ≡ run.old.unread) × (run.new.held ≡ run.old.held))
 
--- Unless a read of a file failed or memory ran out, the status is Refused if and only if the files have a first fault. The notes then take
--- the line of this fault.
+-- At Refused, the output takes nothing. If the store holds the command's texts, then, unless a read of a file failed or
+-- memory ran out, the status is Refused if and only if the texts have a first fault. At Refused, such a run asked for
+-- each file once and in order, and the notes take the line of this fault.
 abbrev pub TellsFault : Run → Type 0
 TellsFault run =
     (run.status ≡ Refused → PutsNothing run)
@@ -209,8 +212,10 @@ TellsFault run =
     × ((line : Text) × GivesOutcome command texts (Err line) × Notes run line))
     × ((line : Text) → GivesOutcome command texts (Err line) → (run.status ≢ Done) × (run.status ≢ WriteFault) × EndsWith run command Refused))
 
--- If a file is longer than its limit, the status is Refused, unless a read of a file failed or memory ran out. A refused run asks for no
--- file after this file. A run in which memory ran out may ask for later files (`TellsMemory`).
+-- If `file` is the first file that is longer than its limit, and the store holds the files before it, the status is
+-- Refused, unless a read of a file failed or memory ran out. At Refused, the run asked for the files up to this one and
+-- for no later file, and the notes take the line for this file. A run in which memory ran out may ask for later files
+-- (`TellsMemory`).
 abbrev pub TellsLong : Run → Type 0
 TellsLong run =
     (command : Command) (file : Wanted) → HasWordsOf run command → (long : IsTooLong run.old.held (files_of command) file) →
@@ -224,8 +229,9 @@ FilesGive run command outcome =
     ((texts : List Text) × HoldsEach run.old.held (files_of command) texts × GivesOutcome command texts outcome)
     ⊎ ((file : Wanted) × IsTooLong run.old.held (files_of command) file × (outcome ≡ Err (long_line file.name file.limit)))
 
--- The status is Done or WriteFault only if the words ask for a command whose files give a text. It is Refused only if the files give a
--- line.
+-- At Done, the words ask for a command whose files give the text that the output took. At WriteFault, they ask for a
+-- command whose files give a text, and the output took some first bytes of it. At Refused, they ask for a command whose
+-- files give a line, and the notes take this line.
 abbrev pub RestsOnFiles : Run → Type 0
 RestsOnFiles run =
     (run.status ≡ Done → (command : Command) × HasWordsOf run command × (text : Text) × FilesGive run command (Ok text) × PutsOut run text)
@@ -244,8 +250,9 @@ FindsOutcome run =
     × ((command : Command) (texts : List Text) → RunsOn run command texts
     → (outcome : Result Text Text) × GivesOutcome command texts outcome)
 
--- The status is ReadFault only if the words ask for a command and a read of one of its files failed. The notes name this file. The run
--- asked for the files before this file, and for no file after it. If the texts of the store are known, the store holds the files before it.
+-- The status is ReadFault only if the words ask for a command and a read of one of its files failed. The output takes
+-- nothing, and the notes take the line for this file. The run asked for the files before this file, and for no file
+-- after it. If the texts of the store are known, the store holds the files before it.
 abbrev pub TellsUnread : Run → Type 0
 TellsUnread run =
     run.status ≡ ReadFault → PutsNothing run
@@ -254,7 +261,9 @@ TellsUnread run =
     × Rose (run.old.unread file.name) (run.new.unread file.name) × AskedInTurn run (map (λ f. f.name) before ++ file.name ∷ []) × Notes run (read_line file.name)
     × ((held : Text → Option Text) → run.old.held ≡ Some held → (texts : List Text) × HoldsEach run.old.held before texts)
 
--- The status is WriteFault only if a write of the output failed. The output took some first bytes of the text.
+-- The status is WriteFault only if a write of the output failed. The notes then take the line for this. If the store
+-- holds the command's texts, the run asked for each file once and in order, and the output took some first bytes of a
+-- text that the files give.
 abbrev pub TellsUnwritten : Run → Type 0
 TellsUnwritten run =
     run.status ≡ WriteFault → Rose run.old.unwritten run.new.unwritten × Notes run write_line
@@ -263,8 +272,8 @@ TellsUnwritten run =
     × ((text : Text) × GivesOutcome command texts (Ok text) × (count : ℕ)
     × PutsOut run (take count text)))
 
--- If memory ran out, the output took nothing. The run asked for some first files of the command, each once and in order. They may include
--- files after a file that is too long.
+-- If memory ran out, the output took nothing, and the notes take the line for this. The run asked for some first files
+-- of the command, each once and in order. They may include files after a file that is too long.
 abbrev pub TellsMemory : Run → Type 0
 TellsMemory run =
     run.status ≡ NoMemory → PutsNothing run × Notes run memory_line × ((command : Command) → HasWordsOf run command → (count : ℕ) × AskedInTurn run (take count (names_in_command command)))

@@ -96,7 +96,8 @@ AsksNothing run = (command : Command) → HasWordsOf run command → ⊥
 abbrev pub texts_called : List Text → List Wanted
 texts_called names = map (λ name. record { name = name; limit = 4194304 }) names
 
--- The files of a command, in order. A file of logs may have up to 64 MiB.
+-- The files of a command with their limits, in the order in which a run asks for them. A file of logs may have up to 64
+-- MiB.
 abbrev pub files_of : Command → List Wanted
 files_of (Diagnose workers log names) = record { name = log; limit = 67108864 } ∷ texts_called (board_names names)
 files_of (Groups log names) = record { name = log; limit = 67108864 } ∷ texts_called (board_names names)

@@ -69,7 +69,8 @@ pub(crate) fn run_on<R: Threads + Sync, S: Store, G: Gate>(
     run(rt, alloc, words, store, out, notes, gate)
 }
 
-/// States that a text is read as a log or a batch if and only if its lines hold a log or a batch. Does nothing.
+/// States that, for the board that files denote, a text is read as a log or a batch if and only if
+/// its lines hold such a log or batch. Does nothing.
 pub fn lines_are_read()
     ensures { LinesAreRead }
 {

@@ -1,5 +1,6 @@
-//! The promises of the program, command by command, in terms of the board and of its model. The proof of each promise uses only the
-//! clauses of `run` and the laws that texts and logs each have one answer.
+//! The promises of the program, command by command, in terms of the board and of its model. Each
+//! promise follows from the contract of `run`, the function of `btest_cli` that runs a command
+//! line, and from the laws that the same texts or logs never give two different results.
 #![tactic(auto)]
 
 mod desk;

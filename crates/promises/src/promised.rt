@@ -9,8 +9,9 @@ use std::alloc::Global;
 use std::thread::Threads;
 
 impl Desk {
-    /// Runs a command line. Promise: `chain` distinguishes a chain with the parts of its files from every chain that has another number of
-    /// parts and no more instruction bits.
+    /// Runs a command line. Promise: the text of `chain` passes on every chain of parts with the
+    /// instruction lengths of its files. It fails on every chain that has another number of parts,
+    /// at least one, each with two or more instruction bits, and no more instruction bits in total.
     pub fn chain<R: Threads + Sync, G: Gate>(
         &mut self,
         rt: &R,
@@ -73,8 +74,8 @@ impl Desk {
         self.run(rt, words, gate)
     }
 
-    /// Runs a command line. Promise: `diagnose` lists exactly the single faults that explain a log, and prints only if the file holds a
-    /// log.
+    /// Runs a command line. Promise: `diagnose` lists exactly the single faults that explain a log,
+    /// and prints only if the files denote a board and the log file holds a log of its test.
     pub fn diagnose<R: Threads + Sync, G: Gate>(
         &mut self,
         rt: &R,
@@ -88,8 +89,9 @@ impl Desk {
         self.run(rt, words, gate)
     }
 
-    /// Runs a command line. Promise: `batch` writes the title and the diagnosis of each block, and prints only if the file holds such
-    /// blocks. The diagnosis of a block depends on the block's log alone.
+    /// Runs a command line. Promise: `batch` writes the title and the diagnosis of each block, and
+    /// prints only if the files denote a board and the batch holds logs of its test. The diagnosis
+    /// of a block depends on the block's log alone.
     pub fn batch<R: Threads + Sync, G: Gate>(
         &mut self,
         rt: &R,
@@ -103,8 +105,9 @@ impl Desk {
         self.run(rt, words, gate)
     }
 
-    /// Runs a command line. Promise: `groups` names the set of groups that explains a log, or says that no set does, and prints only if the
-    /// file holds a log.
+    /// Runs a command line. Promise: `groups` names the set of groups that explains a log, or says
+    /// that no set does, and prints only if the files denote a board and the log file holds a log
+    /// of its walking test.
     pub fn groups<R: Threads + Sync, G: Gate>(
         &mut self,
         rt: &R,
@@ -160,8 +163,8 @@ impl Desk {
         self.run(rt, words, gate)
     }
 
-    /// Runs a command line. Promise: if the status is WriteFault, a write of the output failed, and the output took only some first bytes
-    /// of the text.
+    /// Runs a command line. Promise: if the status is WriteFault, a write of the output failed, and
+    /// the output took some first bytes of the text.
     pub fn write_fault<R: Threads + Sync, G: Gate>(
         &mut self,
         rt: &R,

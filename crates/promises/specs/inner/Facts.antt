@@ -1,5 +1,5 @@
--- `IsRun` has the clauses of the contract of `run`, as one fact about a run. `SayOne` has the laws that the texts of a run have at most one
--- result.
+-- `IsRun` states the contract of `run`, the function of `btest_cli` that runs a command line, as one fact about a run.
+-- `SayOne` has the laws that the texts of a run have at most one result.
 use Rattle.std.specs.Prelude.{◌≡◌, ◌≢◌, ◌⊎◌, ℕ, List, Some, None, Result, IfSome}
 use Rattle.bt_base.specs.Counts.{Rose}
 use Rattle.bt_base.specs.Puts.{Shown}
@@ -58,8 +58,9 @@ pub record IsRun (run : Run) : Type 0 where
       (λ c. IsComplete run.old.held c (SomeRose run.old.unread run.new.unread (names_in_command c))
       (Rose run.old.unwritten run.new.unwritten) run.status)
 
--- The text of a device, and the texts of a chain, of its identification codes and of a board, have at most one answer each. A reading has
--- at most one outcome, and a known reading has one.
+-- The same texts never give two different results: a device, a chain's instruction lengths, a chain's identification
+-- patterns or a board, or a first fault instead. A reading of a command's texts gives at most one outcome. If the
+-- reading is known, it gives one.
 pub record SayOne : Type 0 where
   pub device : (text : Text) (a b : Result RawDevice InputFault) → IsDeviceText text a → IsDeviceText text b → a ≡ b
   pub chain : (chain : Text) (texts : List Text) (a b : Result (List ℕ) InputFault)
