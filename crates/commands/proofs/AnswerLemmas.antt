@@ -1,4 +1,5 @@
--- Lemmas which say that the answer of a command follows from what the command finds and from what the sink takes.
+-- Lemmas which say that the result of a command is an answer (`Answers`, `LogAnswers`): it agrees with what the command
+-- finds in its texts and with what the sink takes.
 use Rattle.std.proofs.Common.{◌≡◌, ℕ, Result, Ok, Err, refl, subst, inl, inr}
 use Rattle.std.specs.Prelude.{IfSome}
 use Rattle.bt_base.specs.Puts.{Puts, Shown, Takes}
@@ -21,7 +22,7 @@ use Rattle.commands.specs.Requests.{BoardTexts}
 use Rattle.commands.specs.declared.texts.LogTexts.{LogTexts}
 use Rattle.commands.specs.inner.Unput.{IsPutInPart, NoBoard, PutsText, unput_batch, unput_log, unput_of}
 
--- if the command finds a fault in its texts, writes nothing and returns the fault, this is an answer
+-- if the command finds a fault in its texts, writes nothing and returns the fault, `Answers` holds for the command
 pub answers_fault : {A : Type 0} (IsFound : Result A InputFault → Type 0) (text_of : A → Text)
     (IsWorth : Text → Type 0) (shown : Shown) (fault : InputFault)
     → IfSome (input_told fault) (λ f. IsFound (Err f))
@@ -60,7 +61,7 @@ by_put P text old new (Err (unput.Batch rows fault)) bad whole cut none = absurd
 by_put P text old new (Err unput.Write) short whole cut none = cut short
 by_put P text old new (Err unput.Memory) same whole cut none = none same
 
--- if the command finds a value, and `IsWorth` holds for its text, the result of writing the text is an answer
+-- if the command finds a value, and `IsWorth` holds for its text, `Answers` holds for the result of writing the text
 pub text_answers : {A : Type 0} (IsFound : Result A InputFault → Type 0) (text_of : A → Text)
     (IsWorth : Text → Type 0) (value : A) → IsFound (Ok value)
     → (old new : Shown) (result : Result (Unit {0}) Unput) → PutsText (text_of value) old new result
@@ -96,7 +97,7 @@ no_board texts (input.Device number fault) is = is
 no_board texts (input.Link fault) is = is
 no_board texts (input.NoIdent line) is = is
 
--- if there is no board for this reason, and nothing is written, the reason is an answer
+-- if there is no board for this reason, and nothing is written, `Answers` holds for this reason
 pub no_board_answers : (texts : BoardTexts) (text_of : RawBoard → Text) (IsWorth : Text → Type 0)
     (shown : Shown) (failure : Unput) → NoBoard texts failure
     → Answers (IsBoardOf texts) text_of IsWorth shown shown (Err failure)
@@ -117,7 +118,7 @@ no_board_judged judging text_of texts IsWorth shown (unput.Batch rows fault) is 
 no_board_judged judging text_of texts IsWorth shown unput.Write is = absurd is
 no_board_judged judging text_of texts IsWorth shown unput.Memory is = refl
 
--- if the texts denote this board, an answer for the log and this board is an answer for the texts
+-- if the texts denote this board, an answer for the log and this board (`AnswersOn`) is an answer for the texts
 pub judged_denoted : {L E A : Type 0} (judging : Judging L E A) (text_of : RawBoard × A → Text)
     (P : Text → RawBoard → Text → Type 0) (texts : LogTexts) (board : RawBoard)
     → IsBoardOf texts.board (Ok board)
@@ -139,7 +140,8 @@ of_two {A} {B} P {a} {b} {c} {d} first second is = subst (λ (x : A). P x d) fir
 pub of_three : {A B C : Type 0} (P : A → B → C → Type 0) {a b : A} {c d : B} {e f : C} → a ≡ b → c ≡ d → e ≡ f → P a c e → P b d f
 of_three {A} {B} {C} P {a} {b} {c} {d} {e} {f} first second third is = subst (λ (x : A). P x d f) first (of_two (P a) second third is)
 
--- a command that finds a fault in a log, writes nothing and returns the reason `unput_log rows fault` gives a correct answer
+-- if a command finds a fault in a log, writes nothing and returns the reason `unput_log rows fault`, `LogAnswers` holds
+-- for the command
 pub log_wrong : {A : Type 0} (IsFound : Result A TextFault → Type 0) (text_of : A → Text)
     (IsWorth : Text → Type 0) (shown : Shown) (rows : ℕ) (said : LogAnswer) (fault : LogFault)
     → IfSome (log_told fault) (λ f. said ≡ Err f)
@@ -151,7 +153,8 @@ log_wrong IsFound text_of IsWorth shown rows said (log.Length line) fails is = (
 log_wrong IsFound text_of IsWorth shown rows said (log.Extra line) fails is = (is (log.Extra line) fails, refl)
 log_wrong IsFound text_of IsWorth shown rows said (log.Missing found) fails is = (is (log.Missing found) fails, refl)
 
--- a command that finds a fault in a batch, writes nothing and returns the reason `unput_batch rows fault` gives a correct answer
+-- if a command finds a fault in a batch, writes nothing and returns the reason `unput_batch rows fault`, `LogAnswers`
+-- holds for the command
 pub batch_wrong : {A : Type 0} (IsFound : Result A TextFault → Type 0) (text_of : A → Text)
     (IsWorth : Text → Type 0) (shown : Shown) (rows : ℕ) (said : BatchAnswer) (fault : BatchFault)
     → IfSome (batch_told fault) (λ f. said ≡ Err f)

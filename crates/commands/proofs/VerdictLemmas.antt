@@ -40,7 +40,7 @@ module _ (listed : ExplainingListed) (unexplained : PassingUnexplained) (board :
     each_right blocks verdicts are.1,
   )
 
--- if `found` is the answer for a log, it is the set `groups` exactly if `groups` explains the log
+-- if `found` is what a log shows (`AreFound`), it is the set `groups` if and only if `groups` explains the log
 pub exactly_found : OneSet → (board : RawBoard) → IsBoard board
     → (rows : List (List Bool)) (found : Option (List (List ℕ))) → AreFound board rows found
     → (groups : List (List ℕ)) → (found ≡ Some groups) ↔ Explain board rows groups

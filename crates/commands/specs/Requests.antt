@@ -24,7 +24,8 @@ chain_texts chain bsdl = record { chain = chain; bsdl = bsdl }
 abbrev pub board_texts : Text → Text → List Text → BoardTexts
 board_texts chain nets bsdl = record { chain = chain; nets = nets; bsdl = bsdl }
 
--- The command with these texts. There must be one text for each of the command's file names, in order. Otherwise the result is `None`.
+-- The command with these texts. There must be one text for each of the command's file names, in order. Otherwise the
+-- result is `None`. `Make` names no file and ignores the texts.
 abbrev pub request_of : Command → List Text → Option Request
 request_of (Chain names) (chain ∷ bsdl) = Some (Chain (chain_texts chain bsdl))
 request_of (Ident names) (chain ∷ bsdl) = Some (Ident (chain_texts chain bsdl))

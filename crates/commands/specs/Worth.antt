@@ -33,7 +33,7 @@ use Rattle.command_line.specs.declared.command.Command.TheVariants.{Chain, Ident
 use Rattle.command_line.specs.Words.{Text}
 use Rattle.commands.specs.Requests.{BoardTexts, ChainTexts, Request}
 
--- the text tests the length of the chain that these texts describe
+-- `text` is a test of the number of parts in the chain that `texts` describe
 pub record IsChainTestText (texts : ChainTexts) (text : Text) : Type 0 where
   pub lengths : List ℕ
   pub are : AreChainLengths texts.chain texts.bsdl (Ok lengths)
@@ -63,7 +63,7 @@ pub record IsSvfText (texts : BoardTexts) (text : Text) : Type 0 where
   pub denoted : Denotes texts.chain texts.nets texts.bsdl board
   pub tests : IsBoardTest board text
 
--- the text tests the identification codes of the parts that these texts describe
+-- `text` is a test of the identification codes of the parts that `texts` describe
 pub record IsIdentTestText (texts : ChainTexts) (text : Text) : Type 0 where
   pub patterns : List (Option (List Symbol))
   pub are : AreIdents texts.chain texts.bsdl (Ok patterns)
@@ -77,8 +77,9 @@ pub record IsWalkText (texts : BoardTexts) (text : Text) : Type 0 where
   pub denoted : Denotes texts.chain texts.nets texts.bsdl board
   pub harmless : IsHarmless board text
 
--- `pass` is true if and only if every compared bit of the log is the expected bit. If `pass` is true, `faults` is empty. `faults` has each
--- single fault that explains the log, once and in order, and no other fault.
+-- `pass` is true if and only if every compared bit of the log is the expected bit. If `pass` is true, `faults` is
+-- empty. `faults` has each single fault that explains the log, once and in the order of single faults, and no other
+-- fault.
 pub record IsRight (board : RawBoard) (rows : List (List Bool)) (pass : Bool) (faults : List Single) : Type 0 where
   pub passes : IsTrue pass ↔ (IsExpected board (svf_row_scans board) rows)
   pub lists : ListsExplaining board rows faults

@@ -61,7 +61,7 @@ fn put_test<K: Sink>(alloc: Global, planned: &Planned, out: &mut K) -> Result<()
     answer_by(write_test(test.board_plan(), &mut rows, out))
 }
 
-// Does nothing. Its contract says that the text of the board's test tests the board.
+// States that the text of the board's test is a test of the board (`IsBoardTest`). Does nothing.
 fn tests_board(board: &Board)
     ensures { IsBoardTest board.now (board_text board.now) }
 {
@@ -79,8 +79,9 @@ pub fn test_means(board: &Board)
     texts_mean();
 }
 
-// States that a log with the rows and bits of the board's test has a row for each compared SDR statement of the test, in
-// the order of the statements, and that each row has a bit for each position. Does nothing.
+// States that a log with `test_rows` rows of `data_bits` bits has the shape of a log of the board's
+// test (`HasShape`): a row for each compared SDR statement of the test, and in each row a bit for
+// each position of a data scan. Does nothing.
 fn test_logs_shaped(board: &Board)
     ensures { (log : List (List Bool)) → HasSize (test_rows board.now) (data_bits board.now) log
         → HasShape board.now (svf_row_scans board.now) log }
@@ -99,10 +100,11 @@ fn singles_respond(board: &Board)
     scans_in_turn();
 }
 
-/// States the laws on which the diagnoses of a board rest. The board satisfies the rules of a board (`IsBoard`). The meaning of the text of
-/// any data scans is the clocks of these scans. A log with the rows and bits of the board's test has the shape of the test. Each single
-/// fault of the board has one response. A diagnosis lists exactly the faults that explain its log. No fault explains a log that passes.
-/// Does nothing.
+/// States the laws on which the diagnoses of a board rest. The board satisfies the rules of a board
+/// (`IsBoard`). The meaning of the text of any data scans is the clocks of these scans. A log with
+/// `test_rows` rows of `data_bits` bits has the shape of a log of the board's test. Each single
+/// fault of the board has one response. A diagnosis lists exactly the faults that explain its log.
+/// No fault explains a log that passes. Does nothing.
 pub fn judging_laws(board: &Board)
     ensures rules { IsBoard board.now }
     ensures means { (scans : List RowScan)

@@ -34,7 +34,7 @@ use tap_defs::board_law::{rows_compared, statements_compared};
 use walk_test::Walk;
 use walk_test::law::{scans_counted, walk_harmless};
 
-/// A board and its walking test. The model is this pair.
+/// A board and its walking test. Its value in contracts is this pair.
 #[derive(Drop)]
 pub struct Walked {
     pub board: Board,
@@ -53,7 +53,7 @@ impl Model for Walked {
 }
 
 impl Walked {
-    /// Returns the board.
+    /// Returns the board alone, without its walking test.
     pub fn board(&self) -> &Board
         ensures { result.now ≡ self.now.board }
     {
@@ -103,8 +103,9 @@ fn with_walk(alloc: Global, board: Board) -> Result<Walked, AllocError>
     Ok(Walked { board, walk })
 }
 
-/// States that a log with the rows and bits of the board's walking test has a row for each compared SDR statement of the
-/// test, in the order of the statements, and that each row has a bit for each position. Does nothing.
+/// States that a log with `walk_rows` rows of `data_bits` bits has the shape of a log of the
+/// board's walking test (`HasShape`): a row for each compared SDR statement of the test, and in
+/// each row a bit for each position of a data scan. Does nothing.
 pub fn walk_logs_shaped(board: &Board)
     ensures { (log : List (List Bool)) → HasSize (walk_rows board.now) (data_bits board.now) log
         → HasShape board.now (walk_row_list board.now) log }

@@ -42,7 +42,9 @@ fn put_test<K: Sink>(alloc: Global, lengths: &[u32], out: &mut K) -> Result<(), 
     answer_by(write_test(lengths, &mut rows, out))
 }
 
-// States that the text of the chain test tests the length of the chain. Does nothing.
+// States that the text of the chain test tests the number of parts in a chain with these
+// instruction lengths (`IsChainTest`). There must be 1 to 255 lengths, each from 2 to 255. Does
+// nothing.
 fn tests_length(lengths: &[u32])
     requires { AreLengths lengths.now }
     ensures { IsChainTest lengths.now (chain_text lengths.now) }
@@ -51,7 +53,8 @@ fn tests_length(lengths: &[u32])
     chain_tests();
 }
 
-// Returns the number of bits of the longest scan of the chain test.
+// Returns the number of bits of the longer scan of the chain test. There must be 1 to 255 lengths,
+// each from 2 to 255.
 fn longest_scan(lengths: &[u32]) -> u32
     requires { AreLengths lengths.now }
     ensures { IsChainRoom lengths.now result }

@@ -82,7 +82,8 @@ fn put_batch<R: Threads + Sync, K: Sink, G: Gate>(
     }
 }
 
-// Diagnoses the logs in these blocks of a batch, and writes the diagnoses. The logs must have the board's test's numbers of rows and bits.
+// Diagnoses the logs in these blocks of a batch, and writes the diagnoses. Each log must have the
+// numbers of rows and bits that the board's test needs.
 fn put_blocks<R: Threads + Sync, K: Sink, G: Gate>(
     rt: &R,
     alloc: Global,

@@ -23,7 +23,8 @@ use scan_planner::Plan;
 use std::alloc::{AllocError, Global};
 use std::marker::Model;
 
-/// A board and the plan of its test. The plan has the passes of the board. The model is this pair.
+/// A board and the plan of its test. The plan has the passes of the board. Its value in contracts
+/// is this pair.
 #[derive(Drop)]
 pub struct Planned {
     pub board: Board,
@@ -41,7 +42,7 @@ impl Model for Planned {
 }
 
 impl Planned {
-    /// Returns the board.
+    /// Returns the board alone, without the plan of its test.
     pub fn board(&self) -> &Board
         ensures { result.now ≡ self.now.board }
     {

@@ -21,7 +21,7 @@ impl Model for ShortText {
 }
 
 impl ShortText {
-    /// Creates a text with these bytes. There must be fewer than 2^32.
+    /// Creates a text with these bytes. There must be fewer than 2^32 of them.
     pub fn of(bytes: Vec<u8>) -> ShortText
         requires { length bytes.items < 2 ^ 32 }
         ensures { result ≡ bytes.items }
@@ -29,7 +29,7 @@ impl ShortText {
         ShortText { bytes }
     }
 
-    /// Returns the bytes of the text.
+    /// Returns the bytes of the text. There are fewer than 2^32 of them.
     pub fn as_bytes(&self) -> &[u8]
         ensures bytes { result.now ≡ self.now }
         ensures short { length result.now < 2 ^ 32 }
@@ -73,7 +73,8 @@ impl ShortTexts {
         ShortTexts { texts }
     }
 
-    /// Returns the texts in order.
+    /// Returns the texts in the order in which `of` took them. There are fewer than 2^32 texts,
+    /// each of fewer than 2^32 bytes.
     pub fn as_slice(&self) -> &[Vec<u8>]
         ensures texts { map (λ text. text.items) result.now ≡ self.now }
         ensures each { All (λ text. length text.items < 2 ^ 32) result.now }

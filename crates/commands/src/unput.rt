@@ -34,7 +34,7 @@ impl From<AllocError> for Unput {
     }
 }
 
-/// Returns the reason why nothing is written if the texts have this fault.
+/// Returns the reason why a command writes nothing if its texts have this fault.
 pub fn unput_by(fault: InputFault) -> Unput
     ensures { result ≡ unput_of fault }
 {
@@ -44,7 +44,8 @@ pub fn unput_by(fault: InputFault) -> Unput
     }
 }
 
-/// Returns the reason why nothing is written if a log that must have `rows` rows has this fault.
+/// Returns the reason why a command writes nothing if its log has this fault. The log must have
+/// `rows` rows.
 pub fn unput_by_log(rows: u64, fault: LogFault) -> Unput
     ensures { result ≡ unput_log rows fault }
 {
@@ -54,7 +55,8 @@ pub fn unput_by_log(rows: u64, fault: LogFault) -> Unput
     }
 }
 
-/// Returns the reason why nothing is written if a batch of logs that must have `rows` rows each has this fault.
+/// Returns the reason why a command writes nothing if its batch of logs has this fault. Each log
+/// must have `rows` rows.
 pub fn unput_by_batch(rows: u64, fault: BatchFault) -> Unput
     ensures { result ≡ unput_batch rows fault }
 {

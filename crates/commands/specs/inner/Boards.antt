@@ -2,7 +2,6 @@
 use Rattle.board_defs.specs.declared.board.RawBoard.{RawBoard}
 use Rattle.walk_test.specs.declared.tables.WalkTables.{WalkTables}
 
--- a board with its walking test
 pub record WalkedBoard : Type 0 where
   pub board : RawBoard
   pub walk : WalkTables

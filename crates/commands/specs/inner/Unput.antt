@@ -14,7 +14,7 @@ use Rattle.commands.specs.Requests.{BoardTexts}
 use Rattle.commands.specs.declared.unput.Unput.{Unput}
 use Rattle.commands.specs.declared.unput.Unput.TheVariants as unput
 
--- The reason why a command writes nothing if its log has this fault. `rows` is the number of rows that the log must have.
+-- The reason why a command writes nothing if its log has this fault. The log must have `rows` rows.
 abbrev pub unput_log : ℕ → LogFault → Unput
 unput_log rows (log.Memory e) = unput.Memory
 unput_log rows (log.Digit line) = unput.Log rows (log.Digit line)
@@ -22,7 +22,7 @@ unput_log rows (log.Length line) = unput.Log rows (log.Length line)
 unput_log rows (log.Extra line) = unput.Log rows (log.Extra line)
 unput_log rows (log.Missing found) = unput.Log rows (log.Missing found)
 
--- the reason why a command writes nothing if a batch whose logs must have `rows` rows each has this fault
+-- The reason why a command writes nothing if its batch of logs has this fault. Each log must have `rows` rows.
 abbrev pub unput_batch : ℕ → BatchFault → Unput
 unput_batch rows (batch.Memory e) = unput.Memory
 unput_batch rows (batch.Start line) = unput.Batch rows (batch.Start line)
