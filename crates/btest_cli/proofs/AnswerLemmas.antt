@@ -1,4 +1,5 @@
--- Lemmas which say that the answer to a request is an outcome of the request.
+-- Lemmas which say that what a command writes and returns for a request agrees with an outcome of the request
+-- (`IsAnswered`).
 use Rattle.std.proofs.Common.{Result, Ok, Err, refl, inl, inr}
 use Rattle.bt_base.specs.Puts.{Shown}
 use Rattle.btest_core.specs.declared.fault.InputFault.{InputFault}
@@ -14,7 +15,7 @@ use Rattle.btest_cli.specs.Refusals.{text_fault_line}
 use Rattle.btest_cli.specs.Outcome.{IsGiven, IsSaid}
 use Rattle.btest_cli.specs.inner.Failures.{IsAnswered}
 
--- the answer of a command that reads no log is an outcome of the request
+-- if a command that reads no log writes and returns what `Answers` allows, this agrees with an outcome of the request
 pub answered : {A : Type 0} (names : Names) (request : Request)
     (IsFound : Result A InputFault → Type 0) (text_of : A → Text) (IsWorth : Text → Type 0)
     (old new : Shown) (result : Result (Unit {0}) Unput)
@@ -46,7 +47,8 @@ answered names request IsFound text_of IsWorth old new (Err unput.Write) gives w
     }
 answered names request IsFound text_of IsWorth old new (Err unput.Memory) gives worth same = same
 
--- the answer of a command that reads a log or a batch of logs is an outcome of the request
+-- if a command that reads a log or a batch of logs writes and returns what `LogAnswers` allows, this agrees with an
+-- outcome of the request
 pub log_answered : {A : Type 0} (names : Names) (request : Request)
     (IsFound : Result A TextFault → Type 0) (text_of : A → Text) (IsWorth : Text → Type 0)
     (old new : Shown) (result : Result (Unit {0}) Unput)

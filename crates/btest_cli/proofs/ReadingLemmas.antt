@@ -180,7 +180,7 @@ pub lost_first : {A B : Type 0} {Of : A → List Text → Type 0} {first : List 
 lost_first {first = first} rest {held = held} {before = before} {now = now} {asked = asked} {asked' = asked'} As {lost = lost} reads =
     record { same = reads.same; later = reads.later; told = more_unread first rest held asked asked' before now lost reads.told }
 
--- if memory ran out after the texts `first` were read, memory ran out for the texts `first` followed by `rest`
+-- if memory ran out after the texts `first` were read, the read of `first` followed by `rest` failed for lack of memory
 lost_between : {A B : Type 0} {Of : A → List Text → Type 0} {first : List Wanted}
     (rest : List Wanted) {held held' : Held} {before now : Text → ℕ} {asked asked' : List Text}
     (As : B → List Text → Type 0) {value : A}
@@ -322,7 +322,8 @@ module _ (names : List (Bor Text)) (k : ℕ) {held held' : Held} {before now : T
       (λ (wanted : List Wanted). Reads AreAll wanted held held' before now asked asked' (Err lost))
       (sym (cut_at names k)) (lost_first (called (drop k names)) AreAll reads)
 
-  -- if memory ran out after the texts with the first `k` names were read, memory ran out for all names
+  -- if memory ran out after the texts with the first `k` names were read, the read of the texts with all names failed
+  -- for lack of memory
   pub memory_of : {found : List Text}
       → Reads AreAll (called (take k names)) held held' before now asked asked' (Ok found)
       → Reads AreAll (called names) held held' before now asked asked' (Err unread.Memory)

@@ -387,8 +387,9 @@ one_said text_of line_of IsFound a b one says_a says_b =
     let y = found_of text_of line_of IsFound b says_b in
     x.2 ∙ ap (said text_of line_of) (one x.0 y.0 x.1 y.1) ∙ sym y.2
 
--- The text of a device, and the texts of a chain, of its identification codes and of a board, have at most one answer each. Other crates
--- prove these laws, so lemmas take them as arguments.
+-- An answer is the value that texts give, or their first fault. The text of a device, and the texts of a chain, of its
+-- identification codes and of a board, have at most one answer each. Other crates prove these laws, so lemmas take them
+-- as arguments.
 abbrev OneDevice : Type 0
 OneDevice = (text : Text) → AtMostOne (IsDeviceText text)
 

@@ -8,15 +8,15 @@ pub record Wanted : Type 0 where
   pub name : Text
   pub limit : ℕ
 
--- a chain file, a net file or a BSDL text with this name
+-- the name and the limit of a chain file, a net file or a BSDL text with this name
 abbrev pub text_called : Text → Wanted
 text_called name = record { name = name; limit = 4194304 }
 
--- a response log or a batch of logs with this name
+-- the name and the limit of a response log or a batch of logs with this name
 abbrev pub wanted_log : Text → Wanted
 wanted_log name = record { name = name; limit = 67108864 }
 
--- the texts that a command reads, in order
+-- the texts that a command reads, in the order in which it reads them
 abbrev pub wanted_of : Command → List Wanted
 wanted_of (Diagnose workers log names) = wanted_log log ∷ map text_called (board_names names)
 wanted_of (Groups log names) = wanted_log log ∷ map text_called (board_names names)

@@ -23,7 +23,8 @@ pub struct Wanted<'a> {
     pub limit: u32,
 }
 
-// Returns the chain file, net file or BSDL text with this name, as a text to read.
+// Returns the `Wanted` for the chain file, net file or BSDL text with this name: the name, with the
+// limit `MOST_BYTES`.
 fn text_called<'a>(name: &'a str) -> Wanted<'a>
     ensures { wanted_view result ≡ text_called name.entry.now }
 {

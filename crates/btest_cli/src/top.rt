@@ -83,8 +83,9 @@ pub fn run<R: Threads + Sync, S: Store, K: Sink, N: Sink, G: Gate>(
     ensures memory_asks { result ≡ Status.NoMemory
         → ForCommand words.now (λ c. AsksSome c (S.asked store.old) (S.asked store.new)) }
 
-    // If no fault count rose, the texts determine the status, unless memory ran out. For a command that reads no text, this is true of
-    // every store.
+    // If the texts that the store holds are known and no fault count rose, these texts determine
+    // the status, unless memory ran out. For a command that reads no text, this is true of every
+    // store.
     ensures complete { ForCommand words.now (λ c. IsComplete (S.held store.old) c
         (SomeRose (S.faults store.old) (S.faults store.new) (names_in_command c)) (Rose (K.shown out.old).faults (K.shown out.new).faults) result) }
 {

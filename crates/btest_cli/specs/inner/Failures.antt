@@ -67,8 +67,8 @@ IsUnput names request old new (unput.Batch rows fault) = IsGiven names request (
 IsUnput names request old new unput.Write = IsSinkCut names request old new
 IsUnput names request old new unput.Memory = new ≡ old
 
--- The answer to a request is correct: if the request succeeded, the sink took the whole text, and otherwise `IsUnput` holds for the
--- failure.
+-- What a command wrote and returned for a request is correct: if it returned no failure, the sink took the whole text,
+-- and otherwise `IsUnput` holds for the failure.
 abbrev pub IsAnswered : Names → Request → Shown → Shown → Result (Unit {0}) Unput → Type 0
 IsAnswered names request old new (Ok done) = IsPut names request old new
 IsAnswered names request old new (Err failure) = IsUnput names request old new failure
