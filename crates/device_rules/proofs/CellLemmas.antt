@@ -25,7 +25,7 @@ no_control_there cell boundary entries le below = sym (list_any_none (is_entry_o
     (All-weaker (λ entry. entry.num < boundary) (λ entry. is_entry_of_control cell entry ≡ false)
     (λ entry lt. another_cell cell boundary entry le lt) entries below))
 
--- a cell number past the register has no flag and no entry, so the look-up is right for it too
+-- a cell number past the end of the register has no flag and no entry, so the look-up is right for it too
 pub controls_known : (boundary : ℕ) (entries : List Entry) (flags : List Bool)
     → All (λ entry. entry.num < boundary) entries
     → MarksItems is_entry_of_control entries boundary flags → (cell : ℕ)

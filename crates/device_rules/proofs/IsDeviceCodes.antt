@@ -118,7 +118,7 @@ not_ones (suc n) least = refl
 zero_given : Zero ≢ Any
 zero_given e = cc e
 
--- the text lists a preload code, and some symbol of the code counts as 0
+-- the text lists a preload code, and not all of its symbols are 1
 record Preloads (edition : Edition) (preload : Option (List Symbol)) : Type 0 where
   code : List Symbol
   is : preload ≡ Some code
@@ -143,8 +143,7 @@ not_zeros (Some c) code same e =
     ∙ not-false (list_any bit_of c)
     (not-true (is_all_zeros c) (and_parts (not (is_all_zeros c)) (not (is_all_ones c)) e).0)
 
--- The text lists an EXTEST code. Some symbol of the code counts as 0, and the code differs from the
--- preload code.
+-- The text lists an EXTEST code. Not all of its symbols are 1, and it differs from the preload code.
 record Extests (code preload : Option (List Symbol)) : Type 0 where
   own : List Symbol
   is : code ≡ Some own

@@ -71,8 +71,8 @@ one_more true false = refl
 one_more false true = refl
 one_more false false = refl
 
--- one step of a loop over the entries: `old` is the flag before entry `i`, and `new` is the flag
--- after it
+-- one step of a loop over the entries: `old` is whether an entry before entry `i` names port `q`,
+-- and `new` is whether entry `i` or one before it does
 pub known_more : (entries : List MapEntry) (i : ℕ) (entry : MapEntry) (name q : List ℕ)
     (new old : Bool) → i < length entries → get_or entries i entry ≡ entry → name ≡ entry.port
     → new ≡ cond (bytes_eq name q) true old

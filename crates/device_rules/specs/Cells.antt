@@ -13,7 +13,7 @@ use Rattle.instruction_rules.specs.Instructions.{same_bit}
 abbrev pub is_entry_of : ℕ → Entry → Bool
 is_entry_of cell entry = entry.num == cell
 
--- the cell number of the first entry whose cell number is not below the length of the register
+-- the cell number of the first entry whose cell number is at least `boundary`, the length of the register
 abbrev pub too_large : ℕ → List Entry → Option ℕ
 too_large boundary entries = option_map (λ entry. entry.num) (find (λ entry. nat_le boundary entry.num) entries)
 
@@ -44,7 +44,7 @@ abbrev pub has_control_entry : List Entry → ℕ → Bool
 has_control_entry entries cell = list_any (is_entry_of_control cell) entries
 
 -- An entry with this control breaks rule V10: it lacks a control that it needs, it has one although it does not drive, or its control is
--- a cell that may not be a control.
+-- neither its own cell nor a cell with a CONTROL or CONTROLR entry.
 abbrev pub breaks_control_of : List Entry → Entry → Option Control → Bool
 breaks_control_of entries entry None = needs_control entry.role
 breaks_control_of entries entry (Some control) =
@@ -70,7 +70,7 @@ controls_entry value cell entry = is_disabled_by value cell entry.ctl
 abbrev pub has_two_values : List Entry → ℕ → Bool
 has_two_values entries cell = list_any (controls_entry true cell) entries && list_any (controls_entry false cell) entries
 
--- V11: all entries that the same cell controls have the same disable value
+-- V11: for each cell below `boundary`, all entries that the cell controls have the same disable value
 unfoldable pub v11 : ℕ → List Entry → Option ℕ
 v11 boundary entries = least_below (has_two_values entries) boundary
 
@@ -85,6 +85,6 @@ writes_cell cell entry = is_entry_of cell entry && is_writing entry.role
 abbrev pub is_crowded : List Entry → ℕ → Bool
 is_crowded entries cell = nat_lt 1 (count_by (loads_cell cell) entries) || nat_lt 1 (count_by (writes_cell cell) entries)
 
--- V12: a cell has at most one entry that defines what it captures, and at most one for its update latch
+-- V12: each cell below `boundary` has at most one entry that defines what it captures, and at most one for its update latch
 unfoldable pub v12 : ℕ → List Entry → Option ℕ
 v12 boundary entries = least_below (is_crowded entries) boundary

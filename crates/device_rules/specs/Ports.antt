@@ -11,12 +11,12 @@ use Rattle.bsdl_strings.specs.declared.values.PortWord.{PortWord}
 use Rattle.bsdl_strings.specs.declared.values.PortWord.TheVariants.{Star, Plain, Index}
 use Rattle.first_places.specs.Items.{first_break}
 
--- the range is in order: `to` with bounds that do not fall, or `downto` with bounds that do not rise
+-- there is no range, or it is in order: `to` with left ≤ right, or `downto` with right ≤ left
 abbrev pub range_in_order : Option Range → Bool
 range_in_order None = true
 range_in_order (Some range) = if range.up then nat_le range.left range.right else nat_le range.right range.left
 
--- the number of bits of a port with this range
+-- the number of bits of a port with this range; it is 1 if there is no range or if the range is out of order
 abbrev pub width : Option Range → ℕ
 width None = 1
 width (Some range) = (if range.up then range.right - range.left else range.left - range.right) + 1

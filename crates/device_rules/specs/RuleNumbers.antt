@@ -4,7 +4,7 @@ use Rattle.device_rules.specs.declared.broken.Rule.{Rule}
 use Rattle.device_rules.specs.declared.broken.Rule.TheVariants.{Mandatory, Ports, TestPort, PinMap, Opcodes, Instructions, Patterns, Cells, Places, Controls, DisableValues, Stages, Drivers, Modes}
 use Rattle.device_rules.specs.declared.broken.Broken.{Broken}
 
--- the rule's number, which a fault contains
+-- the rule's number, by which a report names the rule
 abbrev pub rule_number : Rule → ℕ
 rule_number Mandatory = 1
 rule_number Ports = 2

@@ -39,7 +39,7 @@ is_named_among names name = list_any (bytes_eq name) names
 abbrev pub breaks_tap : (Mode → Bool) → List Port → List (List ℕ) → List ℕ → Bool
 breaks_tap mode ports before name = is_named_among before name || not (is_plain_port mode (port_of ports name))
 
--- like `breaks_tap`, but for TRST*, which a device need not have
+-- like `breaks_tap` with mode in, but for TRST*, which a device need not have
 abbrev pub reset_breaks : List Port → List (List ℕ) → Option (List ℕ) → Bool
 reset_breaks ports before None = false
 reset_breaks ports before (Some name) = breaks_tap is_inward ports before name

@@ -10,7 +10,7 @@ use bsdl_strings::Entry;
 use lists::is_set;
 use std::alloc::{AllocError, Global};
 
-/// Returns a flag for each cell, which is true if the cell has an entry.
+/// Returns a flag for each of the `boundary` cells, which is true if the cell has an entry.
 fn cells_with_entry(
     alloc: Global,
     boundary: u32,
@@ -27,7 +27,7 @@ fn cells_with_entry(
     Ok(table)
 }
 
-/// Returns a flag for each cell, which is true if the cell controls an entry with this disable value.
+/// Returns a flag for each of the `boundary` cells, which is true if the cell controls an entry with disable value `value`.
 fn cells_disabling_by(
     alloc: Global,
     value: bool,
@@ -62,7 +62,8 @@ fn least_clear(boundary: u32, flags: &[bool]) -> Option<u32>
     None
 }
 
-/// Returns the cell number of the first entry whose cell number is not below `boundary`.
+/// Returns the cell number of the first entry whose cell number is `boundary` or more, or None if
+/// there is no such entry.
 fn too_large_cell(boundary: u32, entries: &[Entry]) -> Option<u32>
     ensures { result ≡ too_large boundary entries.now }
 {
@@ -72,9 +73,9 @@ fn too_large_cell(boundary: u32, entries: &[Entry]) -> Option<u32>
         .map(|entry| entry.num)
 }
 
-/// Checks rule V8. Returns the cell number of the first entry whose cell number is not below
-/// `boundary`. If there is no such entry, returns the lowest cell number that has no entry, or None
-/// if each cell has one.
+/// Checks rule V8. Returns the cell number of the first entry whose cell number is `boundary` or
+/// more. If there is no such entry, returns the lowest cell number below `boundary` that has no
+/// entry, or None if each has one.
 #[tactic(auto, unfolding(crate::specs::Cells::v8))]
 pub(crate) fn wrong_cell(
     alloc: Global,
@@ -100,7 +101,8 @@ fn are_set(on: &[bool], off: &[bool], place: usize) -> bool
     is_set(on, place) && is_set(off, place)
 }
 
-/// Returns the lowest cell below `boundary` whose flag is set in both tables.
+/// Returns the lowest cell below `boundary` whose flag is set in both tables, or None if there is
+/// none.
 fn least_with_both(boundary: u32, on: &[bool], off: &[bool]) -> Option<u32>
     ensures { result ≡ least_below (λ cell.
         slice_index_or on.now cell false && slice_index_or off.now cell false) boundary }
@@ -113,7 +115,8 @@ fn least_with_both(boundary: u32, on: &[bool], off: &[bool]) -> Option<u32>
     None
 }
 
-/// Checks rule V11. Returns the lowest control cell that has two disable values.
+/// Checks rule V11. Returns the lowest cell below `boundary` that controls one entry with disable
+/// value 0 and another with disable value 1, or None if there is none.
 #[tactic(auto, unfolding(crate::specs::Cells::v11))]
 pub(crate) fn two_valued_control(
     alloc: Global,
@@ -134,7 +137,9 @@ pub enum Stage {
     Update,
 }
 
-/// Returns whether an entry with this function is for the stage.
+/// Returns whether an entry with this function describes the stage of its cell. For the capture
+/// stage the function must be INPUT, CLOCK, OBSERVE_ONLY, BIDIR or INTERNAL. For the update latch
+/// it must be OUTPUT2, OUTPUT3, BIDIR, CONTROL, CONTROLR or INTERNAL.
 fn is_for(stage: Stage, role: Role) -> bool
     ensures { result ≡ is_for stage role }
 {
@@ -153,8 +158,8 @@ fn count_one(table: &mut Vec<u32>, cell: u32)
     table[cell as usize] += 1;
 }
 
-/// Returns, for each cell, the number of its entries that are for the stage. There must be fewer
-/// than 2^32 entries.
+/// Returns, for each of the `boundary` cells, the number of its entries that describe the stage.
+/// There must be fewer than 2^32 entries.
 fn counts_of(
     alloc: Global,
     stage: Stage,
@@ -185,8 +190,9 @@ fn is_several(counts: &[u32], place: usize) -> bool
     }
 }
 
-/// Returns the lowest cell below `boundary` that has more than one entry for its capture stage
-/// (counted in `loaders`) or for its update latch (counted in `writers`).
+/// Returns the lowest cell below `boundary` whose count in `loaders` or in `writers` is more than 1,
+/// or None if there is none. `loaders` counts the entries for the capture stage of each cell, and
+/// `writers` those for the update latch.
 fn least_several(boundary: u32, loaders: &[u32], writers: &[u32]) -> Option<u32>
     ensures { result ≡ least_below (λ cell.
         nat_lt 1 (slice_index loaders.now cell) || nat_lt 1 (slice_index writers.now cell)) boundary }
@@ -199,8 +205,9 @@ fn least_several(boundary: u32, loaders: &[u32], writers: &[u32]) -> Option<u32>
     None
 }
 
-/// Checks rule V12. Returns the lowest cell that has two entries for its capture stage or two for
-/// its update latch. There must be fewer than 2^32 entries.
+/// Checks rule V12. Returns the lowest cell below `boundary` that has more than one entry for its
+/// capture stage or more than one for its update latch, or None if there is none. There must be
+/// fewer than 2^32 entries.
 #[tactic(auto, unfolding(crate::specs::Cells::v12))]
 pub(crate) fn crowded_cell(
     alloc: Global,

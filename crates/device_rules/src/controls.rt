@@ -15,7 +15,7 @@ fn wants_control(role: Role) -> bool
     matches!(role, Role::Output3 | Role::Bidir)
 }
 
-/// Returns a flag for each cell, which is true if the cell has a CONTROL or CONTROLR entry.
+/// Returns a flag for each of the `boundary` cells, which is true if the cell has a CONTROL or CONTROLR entry.
 fn control_cells(alloc: Global, boundary: u32, entries: &[Entry]) -> Result<Vec<bool>, AllocError>
     ensures { IfOk result
         (λ table. MarksItems is_entry_of_control entries.now boundary table.items) }

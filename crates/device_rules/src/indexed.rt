@@ -8,8 +8,9 @@ use crate::port_index::PortIndex;
 use std::alloc::{AllocError, Global};
 use std::marker::Model;
 
-/// A draft whose ports keep rule V2, with an index of the ports. In contracts, the value is the
-/// draft.
+/// A draft whose ports keep rule V2, with an index of the ports. V2 says that port names differ,
+/// that ranges are in order, and that there are at most 65,535 port bits. In contracts, the value
+/// is the draft.
 #[derive(Drop)]
 pub struct IndexedDraft<'a> {
     text: &'a Draft,

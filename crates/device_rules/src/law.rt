@@ -21,7 +21,7 @@ ghost use Rattle.device_rules.specs.Raw.{raw_device, HasLengths};
 ghost use Rattle.device_rules.specs.Rules.{first_rule, KeepsRules};
 ghost use Rattle.board_defs.specs.DeviceRules.{IsDevice};
 
-/// If `first_rule` finds no broken rule, none of the rules is broken.
+/// If `first_rule` finds no broken rule, none of the rules V2 to V14 is broken.
 pub fn all_rules_hold()
     ensures { (draft : Draft) → first_rule draft ≡ None → KeepsRules draft }
 {}

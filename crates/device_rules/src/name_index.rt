@@ -112,7 +112,7 @@ impl<'a, T: Named> NameIndex<'a, T> {
         Ok(NameIndex { items, places })
     }
 
-    /// Returns the items in order.
+    /// Returns the list of the items.
     pub fn as_slice(&self) -> &[T]
         ensures items { result.now ≡ self.now }
         ensures short { length result.now < 2 ^ 32 }

@@ -34,8 +34,8 @@ fn fits_port(ports: &PortIndex, entry: &MapEntry) -> bool
 }
 
 /// Returns whether an entry breaks rule V4. `known` says whether an earlier entry names the entry's
-/// port, `fits` says whether the entry has as many pins as the port has bits, and `repeats` says
-/// whether one of the entry's pins is repeated.
+/// port. `fits` says whether the port exists and has as many bits as the entry has pins. `repeats`
+/// says whether one of the entry's pins is in an earlier entry or occurs twice in the entry.
 fn is_broken(known: bool, fits: bool, repeats: bool) -> bool
     ensures { result ≡ (known || (not fits || repeats)) }
 {

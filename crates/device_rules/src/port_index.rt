@@ -1,5 +1,6 @@
 //! An index of ports. It finds a port by its name, and the number of a port bit by the name and the
-//! index of the bit.
+//! index of the bit. The ports must keep rule V2: their names differ, their ranges are in order, and
+//! they have at most 65,535 bits.
 ghost use Rattle.std.specs.Prelude.{◌≡◌, ◌<◌, ◌^◌, Some, None, true, length, take, IfOk, IfSome};
 ghost use Rattle.std.specs.Option.{option_copied};
 ghost use Rattle.std.specs.List.{position_from};
@@ -103,7 +104,7 @@ impl<'a> PortIndex<'a> {
         Ok(PortIndex { ports, starts })
     }
 
-    /// Returns the ports in order.
+    /// Returns the list of the ports.
     pub fn as_slice(&self) -> &[Port]
         ensures ports { result.now ≡ self.now }
         ensures short { length result.now < 2 ^ 32 }
@@ -166,7 +167,7 @@ impl<'a> PortIndex<'a> {
         self.starts[number as usize]
     }
 
-    /// Returns the number of bits of all ports together.
+    /// Returns the total number of port bits.
     pub fn total_bits(&self) -> u32
         ensures { result ≡ bit_total self.now }
     {

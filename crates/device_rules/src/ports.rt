@@ -7,7 +7,7 @@ use bsdl_parser::{Port, Range};
 use std::alloc::{AllocError, Global};
 use std::collections::HashSet;
 
-/// Returns whether the range is in order: `to` with bounds that do not fall, or `downto` with bounds that do not rise.
+/// Returns whether the range is in order: `to` with left ≤ right, or `downto` with right ≤ left. Returns true if there is no range.
 fn is_in_order(range: Option<Range>) -> bool
     ensures { result ≡ range_in_order range }
 {

@@ -24,7 +24,7 @@ use bsdl_strings::{Entry, MapEntry};
 use instruction_rules::{extest, preload};
 use std::alloc::{AllocError, Global};
 
-/// Returns the names of the ports in order.
+/// Returns the names of the ports, in the order of the list.
 fn port_names(alloc: Global, ports: &[Port]) -> Result<Vec<Name>, AllocError>
     ensures { IfOk result (λ names. names.items ≡ map (λ port. port.name) ports.now) }
 {
@@ -160,7 +160,8 @@ fn all_cells(alloc: Global, ports: &PortIndex, entries: &[Entry]) -> Result<Vec<
     Ok(cells)
 }
 
-/// The parts of a device that its draft has in another form.
+/// The fields of a device's record that are computed from the draft. The other fields are moved out
+/// of the draft unchanged.
 #[derive(Drop)]
 struct Parts {
     ports: Items<Name>,
@@ -202,8 +203,8 @@ fn parts_of(alloc: Global, draft: &IndexedDraft) -> Result<Parts, AllocError>
     })
 }
 
-/// Returns the parts of the device, or the first rule that the draft breaks. The draft's lists must
-/// be shorter than 2^32.
+/// Returns the computed fields of the device's record, or the first rule that the draft breaks. The
+/// draft's lists must be shorter than 2^32.
 fn checked_parts(alloc: Global, draft: &Draft) -> Result<Parts, DraftFault>
     requires { HasShortLists draft.now }
     ensures { IfSound draft.now (λ parts. parts ≡ parts_of draft.now) result }
@@ -214,8 +215,8 @@ fn checked_parts(alloc: Global, draft: &Draft) -> Result<Parts, DraftFault>
     }
 }
 
-/// Returns the record of the device with these parts, which must be the parts of this draft. Moves
-/// everything else out of the draft.
+/// Returns the record of the device that the draft describes. `parts` must be computed from this
+/// draft. Moves everything else out of the draft.
 fn with_parts(draft: Draft, parts: Parts) -> RawDevice
     requires { parts ≡ parts_of draft }
     ensures { result ≡ raw_device draft }

@@ -44,7 +44,7 @@ fn is_in(names: &[&[u8]], name: &[u8]) -> bool
     is_lent(names, name)
 }
 
-/// Returns whether the port of a TAP attribute is one of `before`, or does not have type bit and mode in.
+/// Returns whether `name`, the port name in a TAP attribute, is one of `before`, or no port of type bit and mode in has this name.
 fn breaks_inward(ports: &PortIndex, before: &[&[u8]], name: &[u8]) -> bool
     ensures { result ≡ breaks_tap is_inward ports.now (map (λ n. n.now) before.now) name.now }
 {
@@ -69,7 +69,8 @@ fn breaks_reset(ports: &PortIndex, before: &[&[u8]], reset: &Option<Name>) -> bo
 }
 
 /// Returns the number of the first wrong TAP attribute. A TAP attribute must name a port of type
-/// bit with the right mode, and no earlier TAP attribute may name the same port.
+/// bit, with mode out for TAP_SCAN_OUT and mode in for the others. No earlier TAP attribute may name
+/// the same port.
 fn wrong_tap(ports: &PortIndex, taps: &TapPorts) -> Option<u32>
     ensures { result ≡ wrong_tap ports.now taps.now }
 {
@@ -136,7 +137,8 @@ fn have_length(count: usize, patterns: &[Code]) -> bool
         .all(|pattern| pattern.symbols().len() == count)
 }
 
-/// Returns whether the compliance patterns name port bits only, and each pattern has a symbol for each of these bits.
+/// Returns whether the compliance patterns name port bits only, and each pattern has as many symbols as they name bits. Returns
+/// true if there are no compliance patterns.
 fn complies(ports: &PortIndex, compliance: &Option<Compliance>) -> bool
     ensures { result ≡ complies ports.now compliance.now }
 {

@@ -40,7 +40,8 @@ is_item_called name_in name = λ item. bytes_eq (name_in item) name
 abbrev pub place_called : {A : Type 0} → (A → List ℕ) → List A → List ℕ → Option ℕ
 place_called name_in items name = position_from (is_item_called name_in name) 0 items
 
--- the place of an index in a range, counted from 0 and from left to right
+-- The place of an index in a range, counted from 0 and from left to right, or None if the range does not contain the index. A plain
+-- port has one bit, which has no index and place 0.
 abbrev pub index_place : Option Range → Option ℕ → Option ℕ
 index_place None None = Some 0
 index_place None (Some number) = None
@@ -49,7 +50,7 @@ index_place (Some range) (Some number) =
     if range.up then (if nat_le range.left number && nat_le number range.right then Some (number - range.left) else None) else
     if nat_le range.right number && nat_le number range.left then Some (range.left - number) else None
 
--- The index at a place of a range. Places count from 0, from left to right.
+-- The index at a place of a range, or None if there is no range. Places count from 0, from left to right.
 abbrev pub index_at : Option Range → ℕ → Option ℕ
 index_at None place = None
 index_at (Some range) place = Some (if range.up then range.left + place else range.left - place)

@@ -1,4 +1,4 @@
--- The parts of a device that its draft has in another form.
+-- The fields of a device's record that are computed from the draft.
 use Rattle.std.specs.Prelude.{map}
 use Rattle.device_rules.specs.declared.draft.Draft.{Draft}
 use Rattle.device_rules.specs.declared.raw.Parts.{Parts}

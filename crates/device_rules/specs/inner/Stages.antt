@@ -7,11 +7,11 @@ use Rattle.device_rules.specs.declared.cells.Stage.{Stage}
 use Rattle.device_rules.specs.declared.cells.Stage.TheVariants.{Capture, Update}
 use Rattle.device_rules.specs.Cells.{is_entry_of}
 
--- an entry with this function is for this stage
+-- an entry with this function describes this stage of its cell
 abbrev pub is_for : Stage → Role → Bool
 is_for Capture role = is_loading role
 is_for Update role = is_writing role
 
--- the entry belongs to the cell and is for this stage
+-- the entry belongs to the cell and describes this stage
 abbrev pub is_for_cell : Stage → ℕ → Entry → Bool
 is_for_cell stage cell entry = is_entry_of cell entry && is_for stage entry.role
