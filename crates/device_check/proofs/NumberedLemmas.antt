@@ -1,4 +1,4 @@
--- V1 reports the source with the least number that breaks it.
+-- V1 reports the lowest number of an attribute or pin map that breaks it.
 use Rattle.std.proofs.Common.{◌≡◌, ℕ, zero, suc, ◌+◌, arith, List, Bool, true, false, not, if◌then◌else◌, Option, Some, None, Result, Ok, Err, refl, sym, ◌∙◌, ap, subst}
 use Rattle.std.specs.Prelude.{is_none, option_map}
 use Rattle.board_defs.specs.Limits.{most_bits, most_instruction_bits}

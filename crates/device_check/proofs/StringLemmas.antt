@@ -15,7 +15,7 @@ use Rattle.bsdl_strings.specs.Strings.{IsListOf, IsPattern, IsNoPattern}
 use Rattle.bsdl_strings.proofs.PieceLemmas.{length_pieces}
 
 -- The tokens are a list, or the list goes wrong at some entry. A list has at most half as many
--- entries as tokens, since each entry and each mark takes at least one token.
+-- entries as tokens, since each entry, and each comma or end after it, takes at least one token.
 pub data Answered {T A : Type 0} (entry : Grammar T A) (more : Grammar T Bool) (tokens : List T) : Type 0 where
   listed : (values : List A) → (production_of (list_of entry more)).Whole tokens values
       → 2 * length values ≤ length tokens → Answered entry more tokens

@@ -84,7 +84,7 @@ LeavesFirst entity found (string ∷ strings) attribute entry =
 abbrev pub strings_in_order : List DeviceString
 strings_in_order = pin_map ∷ opcodes ∷ capture ∷ idcode ∷ compliance ∷ boundary ∷ []
 
--- `strings` has the values of all strings, each by its own grammar
+-- `strings` has the values of all strings, each read by its own grammar; a missing optional string has no value
 pub record AreStrings (entity : Entity) (found : FoundValues) (strings : Strings) : Type 0 where
   pub map_is : IsPinMap found.chosen.pin_map strings.map
   pub opcodes_are : AreOpcodes found.registers.opcodes strings.opcodes

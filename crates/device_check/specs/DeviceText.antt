@@ -1,5 +1,5 @@
 -- The listing of a device: a line for its entity, its package, its instruction register, each port,
--- and each entry of a cell.
+-- and each entry of its boundary register.
 use Rattle.std.specs.Prelude.{ℕ, ◌==◌, Bool, true, false, List, [], ◌∷◌, ◌++◌, length, codes, decimal, filter, Option, None, Some, is_some, slice_get, slice_index_or, if◌then◌else◌}
 use Rattle.std.specs.List.{flat_map, list_any, range_with_len}
 use Rattle.line_printer.specs.Prints.{whole, line_of, bit_word}

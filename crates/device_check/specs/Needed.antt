@@ -1,4 +1,4 @@
--- Rule V1: the values that an entity must have, and the first source that is missing, repeated or has a wrong value.
+-- Rule V1: the values that an entity must have, and the first attribute or pin map that is missing, repeated or has a wrong value.
 use Rattle.std.specs.Prelude.{ℕ, ◌==◌, List, Bool, ◌&&◌, ◌||◌, if◌then◌else◌, Option, Some, None, Result, Ok, Err, codes, nat_le, nat_lt}
 use Rattle.board_defs.specs.Limits.{most_bits, most_instruction_bits}
 use Rattle.bsdl_parser.specs.declared.entity.Constant.{Constant}
@@ -35,19 +35,18 @@ pub record FoundValues : Type 0 where
   pub registers : FoundRegisters
   pub chosen : FoundPackage
 
--- If there is a value, the result of the next step `next` for this value. Otherwise the error `source`,
--- which is the attribute or pin map that is missing, repeated or wrong.
+-- `next value` if there is a value. Otherwise the error `source`, which is the attribute or pin map
+-- that is missing, repeated or wrong.
 abbrev pub need : {A B : Type 0} → Source → Option A → (A → Result B Source) → Result B Source
 need source None next = Err source
 need source (Some value) next = next value
 
--- like `need`, but takes the result of another search instead of a value, and returns the error of
--- that search unchanged
+-- `next value` if an earlier search found `value`, and otherwise the error of that search
 abbrev pub and_then : {A B : Type 0} → Result A Source → (A → Result B Source) → Result B Source
 and_then (Err source) next = Err source
 and_then (Ok value) next = next value
 
--- the result `next` of the next step, or the attribute as the error if an attribute is wrong
+-- the attribute as the error if one is given, and otherwise `next`
 abbrev pub unless_bad : {B : Type 0} → Option Attribute → Result B Source → Result B Source
 unless_bad (Some attribute) next = Err (sources.Attribute attribute)
 unless_bad None next = next
@@ -113,7 +112,7 @@ wrong_option entity =
     if is_repeated entity CompliancePatterns then Some CompliancePatterns else
     if conforms entity then None else Some ComponentConformance
 
--- the package with this name, whose pin map is the string of the constant
+-- the package with this name, whose pin map is the string of the constant, or None if there is no constant
 abbrev pub pin_map_in : List ℕ → Option Constant → Option FoundPackage
 pin_map_in name None = None
 pin_map_in name (Some constant) = Some (record { name = name; pin_map = constant.text })
@@ -123,9 +122,9 @@ abbrev pub found_package : Entity → Option (List ℕ) → Option FoundPackage
 found_package entity None = None
 found_package entity (Some name) = pin_map_in name (only_constant entity name)
 
--- V1: the values of all sources, or the first source that is missing, repeated or has a wrong
--- value. The attributes are checked first, in the order of their numbers, and the pin map is
--- checked last.
+-- V1: the values that the entity must have, or the first attribute or pin map that is missing,
+-- repeated or has a wrong value. The attributes are checked first, in the order of their numbers,
+-- and the pin map of the package is checked last.
 unfoldable pub v1 : Entity → Option (List ℕ) → Result FoundValues Source
 v1 entity given =
     and_then (found_taps entity) (λ taps.

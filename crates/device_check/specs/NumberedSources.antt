@@ -1,4 +1,5 @@
--- The sources that break V1, by their numbers. This definition doesn't depend on the order in which V1 tries the sources.
+-- The sources that break V1, by their numbers. A source is an attribute or the pin map of the package. The definition does not
+-- depend on the order in which V1 checks the sources.
 use Rattle.std.specs.Prelude.{ℕ, ◌==◌, List, Bool, false, not, if◌then◌else◌, Option, Some, None, is_none, Result, Ok, Err}
 use Rattle.board_defs.specs.Limits.{most_bits, most_instruction_bits}
 use Rattle.bsdl_parser.specs.declared.entity.Entity.{Entity}
@@ -8,7 +9,8 @@ use Rattle.device_check.specs.Sources.{source_number}
 use Rattle.device_check.specs.Attributes.{only_value, only_port, only_number, only_text, chosen_package}
 use Rattle.device_check.specs.Needed.{within, is_repeated, conforms, found_package}
 
--- the attribute with this number, or the pin map (15), is missing, repeated or has a wrong value
+-- the attribute with this number, or the pin map (15), breaks V1: it is missing although it is mandatory, it is repeated, or it has a
+-- wrong value
 abbrev pub breaks_source : Entity → Option (List ℕ) → ℕ → Bool
 breaks_source entity given number =
     if number == 1 then is_none (only_value entity PinMap) else

@@ -20,9 +20,9 @@ use bsdl_parser::Entity;
 use device_rules::{Draft, DraftFault, Rule, raw_device};
 use std::alloc::Global;
 
-/// Returns the device of a draft, or a fault: the first of the rules V2 to V14 that the draft
-/// breaks. The draft's lists must be shorter than 2^32, and the lengths of its registers must be in
-/// their ranges.
+/// Returns the device of a draft, or a fault. The fault is the first of the rules V2 to V14 that the
+/// draft breaks, or lack of memory. The draft's lists must be shorter than 2^32. The instruction
+/// register must have 2 to 255 bits, and the boundary register 1 to 65,535 cells.
 fn judge(alloc: Global, draft: Draft) -> Result<Device, DeviceFault>
     requires short { HasShortLists draft }
     requires lengths { HasLengths draft }
@@ -67,12 +67,12 @@ fn answer(alloc: Global, entity: &Entity, package: Option<&[u8]>) -> Result<Devi
 ///
 /// The rules are checked in this order: V1; the strings of the pin map and of INSTRUCTION_OPCODE,
 /// INSTRUCTION_CAPTURE, IDCODE_REGISTER, COMPLIANCE_PATTERNS and BOUNDARY_REGISTER; V2 to V14. The
-/// fault is the first rule or string that fails.
+/// fault is the first rule or string that fails, or lack of memory.
 #[tactic(auto, using(crate::proofs::OneAnswer::only_answer))]
 pub fn device(alloc: Global, entity: &Entity, package: Option<&[u8]>) -> Result<Device, DeviceFault>
     requires small { IsSmall entity.now }
     // On Ok, all rules hold, and the device is made from the values in the entity. Otherwise the
-    // fault is the first rule or string that fails.
+    // fault is the first rule or string that fails. If memory runs out, nothing is claimed.
     ensures answer { Gives device_told (λ device. device)
         (IsDeviceAnswer entity.now (option_copied «package».entry)) result }
     // There is no other answer.

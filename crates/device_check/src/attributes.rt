@@ -96,21 +96,22 @@ pub(crate) fn text_of(entity: &Entity, attribute: Attribute) -> Option<&[u8]>
     text_in(value_of(entity, attribute))
 }
 
-/// Like `port_of`, but for an attribute that the entity has exactly once.
+/// Like `port_of`, but returns None unless the entity has the attribute exactly once.
 pub(crate) fn only_port(entity: &Entity, attribute: Attribute) -> Option<&[u8]>
     ensures { option_copied result ≡ only_port entity.now attribute }
 {
     port_in(only_value(entity, attribute))
 }
 
-/// Returns the number that is the attribute's value, if the entity has the attribute exactly once.
+/// Returns the number that is the attribute's value. Returns None unless the entity has the
+/// attribute exactly once and its value is a number.
 pub(crate) fn only_number(entity: &Entity, attribute: Attribute) -> Option<u32>
     ensures { result ≡ only_number entity.now attribute }
 {
     number_in(only_value(entity, attribute))
 }
 
-/// Like `text_of`, but for an attribute that the entity has exactly once.
+/// Like `text_of`, but returns None unless the entity has the attribute exactly once.
 pub(crate) fn only_text(entity: &Entity, attribute: Attribute) -> Option<&[u8]>
     ensures { option_copied result ≡ only_text entity.now attribute }
 {

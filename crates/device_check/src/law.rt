@@ -21,14 +21,14 @@ pub fn entities_have_one_answer()
         → IsDeviceAnswer entity given other → answer ≡ other }
 {}
 
-/// If rule V1 holds, no source breaks the rule. A source is an attribute or the pin map of the
-/// package. If V1 fails, it reports the lowest number of a source that breaks it.
+/// If rule V1 holds, no attribute breaks it, and the pin map of the package does not break it. If V1
+/// fails, it reports the lowest number of an attribute or pin map that breaks it.
 pub fn least_source_is_reported()
     ensures { (entity : Entity) (given : Option (List ℕ))
         → IsLeast (breaks_source entity given) 16 (reported (v1 entity given)) }
 {}
 
-/// If no rule and no string of an entity fails, its device keeps the rules of devices.
+/// If no rule and no string of an entity fails, the entity's device keeps the rules of devices.
 pub fn sound_devices_keep_rules()
     ensures { (entity : Entity) (given : Option (List ℕ)) (device : RawDevice)
         → IsSound entity given device → IsDevice device }

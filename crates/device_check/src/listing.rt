@@ -15,7 +15,7 @@ use bt_bits::Line;
 use itoa::Buffer;
 use line_printer::{begin_line, end_line, print, print_all, put_line};
 
-/// The number of cells whose entries are collected in one walk over all entries.
+/// The number of cells whose entries are collected in one pass over the list of entries.
 const BLOCK: usize = 1024;
 
 fn mode_word(mode: Mode) -> &'static [u8]
@@ -163,7 +163,7 @@ fn has_pins(bits: &[PortBit]) -> bool
     bits.iter().any(|bit| bit.pin.is_some())
 }
 
-/// Prints the pins of the bits in order.
+/// Prints the pins of the bits, in the order of the list.
 fn print_each_pin<K: Sink>(bits: &[PortBit], line: &mut Line, out: &mut K) -> Result<(), PutFault>
     ensures { Prints (K.shown out.old) (K.shown out.new) line.old line.new
         (flat_map (λ bit. pin_text bit.pin) bits.now) result }
@@ -404,7 +404,7 @@ fn put_cell<K: Sink>(
     end_line(line, out)
 }
 
-/// Writes the lines of the entries of a cell.
+/// Writes the lines of these entries, in order. There are at most two.
 fn put_entries<K: Sink>(
     ports: &[Name],
     bits: &[PortBit],
@@ -466,9 +466,9 @@ fn put_block<K: Sink>(
     )
 }
 
-/// Writes the lines of all cells, block by block. Each block takes one walk over all entries,
-/// whatever their order is, so the time does not depend on the order. No cell may have more than
-/// two entries.
+/// Writes the lines of all cells, block by block. Each block takes one pass over the list of
+/// entries, so the time does not depend on the order of the list. No cell may have more than two
+/// entries, and the register may have at most 65,535 cells.
 fn put_blocks<K: Sink>(device: &RawDevice, line: &mut Line, out: &mut K) -> Result<(), PutFault>
     requires few { (num : ℕ) → length (entries_of_cell num device.now.cells) ≤ 2 }
     requires most { device.now.boundary ≤ most_bits }
@@ -518,7 +518,8 @@ fn put_in_order<K: Sink>(
 }
 
 /// Writes the lines of all cells. If the entries are in the order of their cells, as in most texts,
-/// one walk writes them. No cell may have more than two entries.
+/// one pass over the list writes them. No cell may have more than two entries, and the register may
+/// have at most 65,535 cells.
 fn put_cells<K: Sink>(device: &RawDevice, line: &mut Line, out: &mut K) -> Result<(), PutFault>
     requires few { (num : ℕ) → length (entries_of_cell num device.now.cells) ≤ 2 }
     requires most { device.now.boundary ≤ most_bits }
@@ -548,7 +549,7 @@ fn put_all_ports<K: Sink>(device: &RawDevice, line: &mut Line, out: &mut K) -> R
     put_ports(device.ports.as_slice(), device.bits.as_slice(), line, out)
 }
 
-/// Writes a line with a word and a name.
+/// Writes a line that consists of `word` and the name.
 fn put_name<K: Sink>(word: &[u8], name: &Name, line: &mut Line, out: &mut K) -> Result<(), PutFault>
     ensures { Prints (K.shown out.old) (K.shown out.new) [] [] (line_of (word.now ∷ name.now ∷ []))
         result }

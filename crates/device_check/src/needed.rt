@@ -164,8 +164,8 @@ fn wrong_option(entity: &Entity) -> Option<Attribute>
 }
 
 /// Returns the name and the pin map of a package: the package that the caller gives, or otherwise
-/// the default of the entity's generic. Returns None if there is no package, or unless exactly one
-/// constant has the package's name.
+/// the default of the entity's generic. Returns None if there is no package, or if no constant or
+/// more than one has the package's name.
 fn needed_package<'a>(entity: &'a Entity, package: Option<&'a [u8]>) -> Option<NeededPackage<'a>>
     ensures { option_map package_view result
         ≡ found_package entity.now (chosen_package entity.now (option_copied «package».entry)) }
@@ -178,8 +178,9 @@ fn needed_package<'a>(entity: &'a Entity, package: Option<&'a [u8]>) -> Option<N
     })
 }
 
-/// Checks rule V1. Returns the values that the entity must have, or the first source that is
-/// missing, repeated or has a wrong value.
+/// Checks rule V1. Returns the values that the entity must have. The error is the first attribute
+/// that breaks the rule. If no attribute breaks it, the error is the pin map of the package, if it
+/// is missing or not unique.
 #[tactic(auto, unfolding(crate::specs::Needed::v1))]
 pub(crate) fn find_needed<'a>(
     entity: &'a Entity,

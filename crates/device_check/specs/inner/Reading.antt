@@ -20,12 +20,12 @@ use Rattle.device_check.specs.Sources.{source_number}
 use Rattle.device_check.specs.Needed.{FoundTaps, FoundRegisters, FoundPackage, FoundValues}
 use Rattle.device_check.specs.DeviceStrings.{LeavesFirst, strings_in_order, AreStrings}
 
--- the TAP ports that the function returns, in the form of the definition
+-- the found TAP ports, with the borrowed names replaced by the names
 abbrev pub taps_view : NeededTaps → FoundTaps
 taps_view taps = record { scan_in = taps.scan_in.now; scan_out = taps.scan_out.now; mode = taps.mode.now; clock = taps.clock.now }
 
--- the values of the two registers' attributes that the function returns, in the form of the
--- definition
+-- the found values of the two registers' attributes, with the borrowed strings replaced by the
+-- strings
 abbrev pub registers_view : NeededRegisters → FoundRegisters
 registers_view registers = record {
   instruction_length = registers.instruction_length;
@@ -38,7 +38,7 @@ registers_view registers = record {
 abbrev pub package_view : NeededPackage → FoundPackage
 package_view chosen = record { name = chosen.name.now; pin_map = chosen.pin_map.now }
 
--- all values that the function returns, in the form of the definition
+-- all found values, with each borrow replaced by what it borrows
 abbrev pub needed_view : Needed → FoundValues
 needed_view needed =
     record {
@@ -60,8 +60,8 @@ pub record HasShortStrings (found : FoundValues) : Type 0 where
   pub capture : length found.registers.capture < 2 ^ 32
   pub boundary : length found.registers.boundary < 2 ^ 32
 
--- the fault is the fault of a string, and `P` holds for its attribute and its entry; or memory ran
--- out
+-- the fault is a string that does not fit its grammar, and `P` holds for its attribute number and
+-- its entry number; or memory ran out
 abbrev pub NamesPlace : (ℕ → ℕ → Type 0) → DeviceFault → Type 0
 NamesPlace P (faults.Rule number item) = ⊥
 NamesPlace P (faults.Text attribute entry) = P attribute entry
