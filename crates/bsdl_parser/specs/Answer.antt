@@ -1,4 +1,4 @@
--- The answer to a text: the entity that its tokens derive, or the first fault.
+-- The answer to a text: the entity that the grammar derives from its tokens, or the first fault.
 use Rattle.std.specs.Prelude.{◌≡◌, ℕ, ◌+◌, ◌-◌, List, [], ◌∷◌, ◌++◌, length, take, count_by, ◌==◌, ◌⊎◌, IsTrue, Option, Some, None, Result, Ok, Err, codes}
 use Rattle.grammars.specs.Grammar.{production_of}
 use Rattle.bsdl_parser.specs.declared.entity.Entity.{Entity}

@@ -77,7 +77,8 @@ pub fn parse(alloc: Global, bytes: &[u8], tokens: &[Token]) -> Result<Entity, Pa
     requires short { length bytes.now < 2 ^ 32 }
     requires tokens { AreTokens bytes.now tokens.now }
     // On Ok, the tokens are a whole file whose value is the entity. Otherwise the fault is at the
-    // first token that cannot continue a file, or at the end of an unfinished file.
+    // first token that cannot continue a file, or at the end of an unfinished file. If memory runs
+    // out, nothing is claimed.
     ensures answer { Gives parse_told (λ entity. entity)
         (IsParseAnswer bytes.now (lexemes bytes.now tokens.now)) result }
     // The definition allows no other answer.

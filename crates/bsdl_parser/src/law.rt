@@ -8,14 +8,14 @@ ghost use Rattle.bsdl_parser.specs.Lexeme.{Lexeme, lexemes};
 ghost use Rattle.bsdl_parser.specs.Answer.{Derives, IsParseAnswer};
 ghost use Rattle.bsdl_parser.specs.Entity.{HaveKinds, IsSmall};
 
-/// A list of tokens derives at most one entity.
+/// The grammar derives at most one entity from a list of tokens.
 pub fn token_lists_derive_one_entity()
     ensures { (tokens : List Lexeme) (entity other : Entity) → Derives tokens entity
         → Derives tokens other → entity ≡ other }
 {}
 
-/// A text and a list of tokens have exactly one answer: either the entity that the tokens derive,
-/// or the first fault.
+/// A text and a list of tokens have exactly one answer: either the entity that the grammar derives
+/// from the tokens, or the first fault.
 pub fn token_lists_have_one_answer()
     ensures some { (text : List ℕ) (tokens : List Lexeme)
         → (answer : Result Entity ParseFault) × IsParseAnswer text tokens answer }

@@ -1,4 +1,4 @@
--- The items of a draft, as the grammar's definitions have them.
+-- Converts a draft, which is the parser's record of the items read so far, to the grammar's record `Items`.
 use Rattle.bsdl_parser.specs.declared.draft.Draft.{Draft}
 use Rattle.bsdl_parser.specs.Bsdl.{Items}
 
