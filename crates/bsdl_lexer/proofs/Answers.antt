@@ -16,7 +16,7 @@ use Rattle.bsdl_lexer.specs.inner.Steps.{token_of, step}
 use Rattle.bsdl_lexer.proofs.Places.{some_bytes}
 use Rattle.bsdl_lexer.proofs.Steps.{Found, next, at_end, open_text, no_token, line_behind, begins_found, step_finds, step_to_token, step_to_begin, step_to_end, step_to_open_text, step_to_byte}
 
--- steps that begin at `place` on `line` find these tokens, and end at `to` on `last_line`
+-- the lexer's steps that begin at `place` on `line` find these tokens, and end at `to` on `last_line`
 abbrev pub Walk : List ℕ → ℕ → ℕ → List Token → ℕ → ℕ → Type 0
 Walk text place line [] to last_line = (place ≡ to) × (line ≡ last_line)
 Walk text place line (token ∷ tokens) to last_line =
@@ -28,7 +28,7 @@ Ends (Ok None) tokens answer = answer ≡ Ok tt
 Ends (Ok (Some token)) tokens answer = (length tokens ≡ token_limit) × (answer ≡ Err (TooMany token.line))
 Ends (Err fault) tokens answer = answer ≡ Err fault
 
--- steps that begin at the front of the text find these tokens and end with this answer
+-- the lexer's steps from the front of the text find these tokens and end with this answer
 pub record Lexed (text : List ℕ) (tokens : List Token) (answer : Result (Unit {0}) LexFault) : Type 0 where
   pub to : ℕ
   pub line : ℕ
@@ -98,7 +98,7 @@ pub walk_on : (text : List ℕ) (tokens : List Token) (place line to last_line :
 walk_on text [] place line to last_line token w e = (ap (λ n. step text n line) w.0 ∙ ap (step text to) w.1 ∙ e, (refl, refl))
 walk_on text (first ∷ tokens) place line to last_line token w e = (w.0, walk_on text tokens first.«end» first.line to last_line token w.1 e)
 
--- a walk from `place` finds these tokens, and there is only a gap between its end `to` and `stop`
+-- A walk from `place` on `line` finds these tokens and ends at `to`, on the line of `to`. There is only a gap between `to` and `stop`.
 record Walked (text : List ℕ) (place line : ℕ) (tokens : List Token) (stop : ℕ) : Type 0 where
   to : ℕ
   last_line : ℕ
@@ -228,7 +228,7 @@ compared text (t ∷ ts) (t' ∷ ts') place start_line to line to' line' w w' =
     let others : Walk text t.«end» t.line ts' to' line' = subst (λ (x : Token). Walk text x.«end» x.line ts' to' line') (sym is) w'.1 in
     longer text t t' ts ts' to line to' line' is (compared text ts ts' t.«end» t.line to line to' line' w.1 others)
 
--- a token can follow the tokens of an answer only if the answer is `TooMany`
+-- if a token follows the tokens of an answer, the answer has `token_limit` tokens
 full_there : (tokens : List Token) (answer : Result (Unit {0}) LexFault) (token : Token)
     (r : Result (Option Token) LexFault) → r ≡ Ok (Some token) → Ends r tokens answer
     → length tokens ≡ token_limit

@@ -33,7 +33,7 @@ line_past text place n line e =
     let there : line_of_place text (place + n) ≡ 1 + line_feeds (take (place + n) text) = refl in
     omega (arith, whole, sum, here, there)
 
--- a token contains no line feed
+-- a token contains no line feed, so it ends on the line on which it starts
 pub line_behind : (text : List ℕ) (token : Token) → IsToken text token → token.line ≡ line_of_place text token.«end»
 line_behind text token h =
     let some : token.start < token.«end» = some_bytes text token.start token.«end» token.kind h.form in

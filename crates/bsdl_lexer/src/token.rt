@@ -29,7 +29,7 @@ pub struct Token {
 /// counted from 1; or lack of memory.
 #[derive(Clone, Copy, Debug, PartialEq, Eq, Error)]
 pub enum LexFault {
-    /// A byte at which no blank, comment or token begins.
+    /// A byte other than a quote, at which no blank, comment or token begins.
     #[error("line {0}: byte not allowed")]
     Byte(u32),
     /// In a string, byte 10, byte 13 or the end of the text comes before the closing quote. The
