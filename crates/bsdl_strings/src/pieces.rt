@@ -69,8 +69,9 @@ pub(crate) fn next_piece(text: &[u8]) -> Option<(&[u8], &[u8])>
     }
 }
 
-/// Returns the text after `mark` if the first byte is `mark`. This test is faster than
-/// `next_piece`. If the result is None, the next piece may still be the mark, after blanks.
+/// Returns the text after `mark` if the first byte is `mark`, and `mark` is not a blank, a letter, a
+/// digit or `_`. This test is faster than `next_piece`. If the result is None, the next piece may
+/// still be the mark, after blanks.
 #[inline]
 #[tactic(auto, unfolding(crate::specs::Pieces::pieces))]
 pub(crate) fn after_mark(text: &[u8], mark: u8) -> Option<&[u8]>

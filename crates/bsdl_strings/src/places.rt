@@ -302,8 +302,8 @@ fn names_result(piece: &[u8]) -> bool
         || spells(piece, b"KEEPER")
 }
 
-/// Reads a disable result, which is the state of a disabled driver. Its value is not returned,
-/// because the driver does not drive in any state that the grammar allows.
+/// Reads a disable result, which is the state of a disabled driver. The state is not returned: in
+/// each state that the grammar allows, the driver does not drive.
 pub(crate) fn result_of_disabling(text: &[u8]) -> Result<&[u8], Stop<'_>>
     ensures { ReadsPieces (λ rest. found tt (pieces rest.now)) result
         (reader_of_grammar result_word (pieces text.now)) }

@@ -11,8 +11,8 @@ use crate::values::{Entry, MapEntry, Opcode};
 use board_defs::Code;
 use std::alloc::Global;
 
-/// Returns the fault of a list if reading stopped after `entries` whole entries. `entries` must be
-/// below 2^31.
+/// Returns the fault if reading stopped after `entries` whole entries: the number of the next entry,
+/// or lack of memory. `entries` must be below 2^31.
 pub(crate) fn fault(stop: Stop<'_>, entries: usize) -> StringFault
     requires { entries < 2 ^ 31 }
     ensures { result ≡ stop_fault stop.entry entries }
@@ -23,8 +23,8 @@ pub(crate) fn fault(stop: Stop<'_>, entries: usize) -> StringFault
     }
 }
 
-/// Returns the entries of a pin map in order. Each entry is a port with its pins. The text must be
-/// shorter than 2^32 bytes.
+/// Returns the entries of a pin map, in the order of the text. Each entry is a port with its pins.
+/// The text must be shorter than 2^32 bytes.
 ///
 /// Returns `StringFault::At` with the number of the first wrong entry, counted from 1, if the text
 /// is not a pin map.
@@ -53,8 +53,8 @@ pub fn pin_map(alloc: Global, text: &[u8]) -> Result<Vec<MapEntry>, StringFault>
     }
 }
 
-/// Returns the entries of an opcode string in order. Each entry is an instruction with its codes.
-/// The text must be shorter than 2^32 bytes.
+/// Returns the entries of an opcode string, in the order of the text. Each entry is an instruction
+/// with its codes. The text must be shorter than 2^32 bytes.
 ///
 /// Returns `StringFault::At` with the number of the first wrong entry, counted from 1, if the text
 /// is not an opcode string.
@@ -83,7 +83,8 @@ pub fn opcodes(alloc: Global, text: &[u8]) -> Result<Vec<Opcode>, StringFault>
     }
 }
 
-/// Returns the entries of a boundary register in order. The text must be shorter than 2^32 bytes.
+/// Returns the entries of a boundary register, in the order of the text. The text must be shorter
+/// than 2^32 bytes.
 ///
 /// Returns `StringFault::At` with the number of the first wrong entry, counted from 1, if the text
 /// is not a boundary register.
