@@ -21,7 +21,8 @@ abbrev pub breaks_opcode : ℕ → List Opcode → Opcode → Bool
 breaks_opcode ir before op = list_any (is_called op.name) before || not (list_all (has_length ir) op.codes)
 
 -- V5: the number of the first wrong opcode, counted from 1. An opcode is wrong if an earlier opcode
--- has the same name, or if one of its codes does not have as many bits as the instruction register.
+-- has the same name, or if one of its codes does not have `ir` symbols, one for each bit of the
+-- instruction register.
 unfoldable pub v5 : ℕ → List Opcode → Option ℕ
 v5 ir ops = first_break (breaks_opcode ir) ops
 
@@ -58,8 +59,8 @@ is_all_ones code = list_all bit_of code
 abbrev pub is_all_zeros : List Symbol → Bool
 is_all_zeros code = not (list_any bit_of code)
 
--- there is a code, some symbol of it counts as 0, and in the old edition some symbol of it counts
--- as 1
+-- there is a code, at least one of its symbols is 0 or X, and in the old edition at least one of its
+-- symbols is 1
 abbrev pub may_preload : Edition → Option (List Symbol) → Bool
 may_preload edition None = false
 may_preload Old (Some code) = not (is_all_zeros code) && not (is_all_ones code)
@@ -77,7 +78,7 @@ abbrev pub is_given_code : List Symbol → Option (List Symbol) → Bool
 is_given_code code None = false
 is_given_code code (Some other) = same_code code other
 
--- there is an EXTEST code, some symbol of it counts as 0, and it is not the preload code
+-- there is an EXTEST code, at least one of its symbols is 0 or X, and it differs from the preload code
 abbrev pub may_extest : Option (List Symbol) → Option (List Symbol) → Bool
 may_extest None preload = false
 may_extest (Some code) preload = not (is_all_ones code) && not (is_given_code code preload)
