@@ -126,7 +126,7 @@ abbrev count_of : Bool → ℕ
 count_of true = 1
 count_of false = 0
 
--- `p` and `q` exclude each other, and each of them implies `r`
+-- the premise says that no item passes both `p` and `q`, and that each item that passes one of them passes `r`
 cut_count : {X : Type 0} (p q r : X → Bool)
     → ((x : X) → count_of (p x) + count_of (q x) ≤ count_of (r x)) → (xs : List X)
     → length (filter p xs) + length (filter q xs) ≤ length (filter r xs)

@@ -24,7 +24,8 @@ use std::alloc::{AllocError, Global};
 /// NoSupplyNet, NoPullNet, PullTwice, GuardedDriver and TwoAlwaysOn.
 ///
 /// `select` must have accepted the chain, and `devices` must have a device for each DEVICE line, in
-/// order. LINK lines are ignored: a board with series parts is built from its joined files.
+/// the order of these lines. LINK lines are ignored. To build a board with series parts, pass its
+/// joined files, in which the two nets of each LINK line are one net.
 pub fn board(
     alloc: Global,
     chain: &ChainFile,
@@ -41,8 +42,8 @@ pub fn board(
     board_of(alloc, SelectedChain::of(lines, parts), nets.lines())
 }
 
-/// Returns the parts of the chain, in order. `devices` must have a device for each DEVICE line, in
-/// order.
+/// Returns the parts of the chain, in the order of their lines. `devices` must have a device for
+/// each DEVICE line, in the order of these lines.
 pub fn parts_of_chain(
     alloc: Global,
     chain: &ChainFile,

@@ -10,8 +10,8 @@ use board_defs::{Cell, Device, Part, PartKind, PinAt};
 use std::alloc::{AllocError, Global};
 use std::marker::Model;
 
-/// Sets or clears the flag of the port bit that this entry drives, if it drives one. The flag says
-/// whether the driver is always on.
+/// Sets or clears the flag of the port bit that this entry drives. The flag says whether the driver
+/// is always on. Does nothing if the entry drives no port bit, or if there is no flag for the bit.
 fn flag_entry(flags: &mut [bool], cell: Cell)
     ensures { (cells : List Cell) (bits : ℕ) → AreFlags cells bits flags.old
         → AreFlags (cell ∷ cells) bits flags.new }
@@ -100,7 +100,7 @@ impl<'a> PartDrivers<'a> {
     }
 }
 
-/// Returns the parts in order, each with the flags of its port bits.
+/// Returns the parts, in the order of the list, each with the flags of its port bits.
 pub fn drivers_of<'a>(alloc: Global, parts: &'a [Part]) -> Result<Vec<PartDrivers<'a>>, AllocError>
     ensures { IfOk result (λ drivers. drivers.items ≡ parts.now) }
 {

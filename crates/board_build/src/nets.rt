@@ -108,7 +108,7 @@ fn pin_counts(
     Ok(counts)
 }
 
-/// Returns an empty group for each net. A group has the capacity that its net's count says.
+/// Returns an empty group for each net. `counts` has the capacity of each group.
 fn empty_groups(alloc: Global, counts: &[usize]) -> Result<Vec<Vec<NetPin>>, AllocError>
     ensures count { IfOk result (λ groups. vec_len groups ≡ length counts.now) }
     ensures empty { IfOk result

@@ -31,7 +31,7 @@ impl<'a> Model for SelectedChain<'a> {
 impl<'a> SelectedChain<'a> {
     /// Returns the chain of these lines and parts. There must be fewer than 2^32 lines, and they
     /// must have 1 to 255 parts with different names. `parts` must have the names on the DEVICE and
-    /// BYPASS lines, in order, and must keep the rules of a part.
+    /// BYPASS lines, in the order of the lines, and must keep the rules of a part.
     pub fn of(lines: &'a [ChainLine], parts: Vec<Part>) -> SelectedChain<'a>
         requires few { length lines.now < 2 ^ 32 }
         requires selected { IsChain lines.now }

@@ -15,8 +15,8 @@ use board_lines::{net_words, once_words};
 use std::alloc::{AllocError, Global};
 use std::marker::Model;
 
-/// The standing words of a net file, in order. A word is standing if no earlier word of the same
-/// net names the same pin.
+/// The standing words of a net file, in the order of the file. A word is standing if no earlier word
+/// of the same net names the same pin.
 #[derive(Drop)]
 pub struct StandingWords<'a> {
     words: Vec<MarkedWord<'a>>,

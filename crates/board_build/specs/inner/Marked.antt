@@ -70,7 +70,7 @@ mark_word parts places inerts word = record {
   always_on = is_free_at parts (place_of_pin places (word_pin word));
 }
 
--- the marked word of the code, as a record of the definitions
+-- converts the Rust record of a marked word to a `Marked`
 abbrev pub seen_word : MarkedWord → Marked
 seen_word m = record {
   word = ((m.net, (m.part.now, m.pin.now)), m.spot);

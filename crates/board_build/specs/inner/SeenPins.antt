@@ -8,8 +8,8 @@ use Rattle.board_lines.specs.NetWords.{lent_pin, same_pin}
 use Rattle.board_build.specs.declared.marked.MarkedWord.{MarkedWord}
 use Rattle.board_build.specs.inner.Marked.{Marked, same_pins}
 
--- two pins are the same if they have the same place; if neither has a place, `same` says whether
--- their names are equal
+-- Two pins are the same if they have the same place, or if neither has a place and their names are
+-- equal. `same` says whether their names are equal.
 abbrev pub at_one_place : Option PinAt → Option PinAt → Bool → Bool
 at_one_place None None same = same
 at_one_place None (Some q) same = false
@@ -23,7 +23,7 @@ are_one a b = at_one_place a.at b.at (same_pins a b)
 abbrev pub is_flagged : List (List Bool) → PinAt → Bool
 is_flagged rows at = slice_index_or (slice_index_or rows at.part []) at.bit false
 
--- the pin is known: the flag of its place is set, or it has no place and the set has its names
+-- an earlier word named the pin: the flag of its place is set, or it has no place and the set has its names
 abbrev pub is_known_at : {S : Type 0} → List (List Bool) → IndexSet (Bor (List ℕ) × Bor (List ℕ)) S
     → Option PinAt → Bor (List ℕ) × Bor (List ℕ) → Bool
 is_known_at rows unplaced None pin = contains (λ a b. same_pin (lent_pin a) (lent_pin b)) unplaced pin

@@ -12,7 +12,7 @@ pub record ChainWithParts : Type 0 where
   pub parts : List Part
 
 -- the chain has fewer than 2^32 lines, and 1 to 255 parts with different names; the parts have the
--- names on the DEVICE and BYPASS lines, in order, and keep the rules of a part
+-- names on the DEVICE and BYPASS lines, in the order of the lines, and keep the rules of a part
 pub record IsSelected (chain : ChainWithParts) : Type 0 where
   pub few : length chain.lines < 2 ^ 32
   pub selected : IsChain chain.lines

@@ -1,4 +1,4 @@
--- The words of the code are the standing words of the definitions.
+-- The words that the function computes are the standing words of the definitions.
 use Rattle.std.proofs.Common.{◌≡◌, map, ap, subst, ◌∙◌}
 use Rattle.answers.specs.Gives.{Gives}
 use Rattle.board_lines.specs.Faults.{board_told}

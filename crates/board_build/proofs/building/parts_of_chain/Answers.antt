@@ -1,4 +1,4 @@
--- The parts have the names of the chain's DEVICE and BYPASS lines, in order.
+-- The parts have the names on the chain's DEVICE and BYPASS lines, in the order of the lines.
 use Rattle.std.proofs.Common.{◌≡◌, length, map, ap, ◌∙◌, arith}
 use Rattle.board_lines.specs.declared.names.Naming.TheVariants.{Entity}
 use Rattle.board_lines.specs.Names.{named}

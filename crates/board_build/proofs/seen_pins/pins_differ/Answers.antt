@@ -18,8 +18,8 @@ either : (now same among : Bool) → (same ≡ true → now ≡ true) → (among
 either now true among here before e = here refl
 either now false among here before e = before e
 
--- one step of the loop: the pin of word `i` was not known before, and is known afterwards together
--- with the pins known before
+-- one step of the loop: no earlier word names the pin of word `i`; the set of known pins then gains
+-- this pin and loses none
 pins_more : (words : List MarkedWord) (i : ℕ) (x : MarkedWord) (old now : MarkedWord → Bool) → i < length words → get_or words i x ≡ x →
     old x ≡ false → ((m : MarkedWord) → are_one (seen_word x) (seen_word m) ≡ true → now m ≡ true)
     → ((m : MarkedWord) → old m ≡ true → now m ≡ true) →
