@@ -25,7 +25,7 @@ use std::alloc::{AllocError, Global};
 ///
 /// `select` must have accepted the chain, and `devices` must have a device for each DEVICE line, in
 /// the order of these lines. LINK lines are ignored. To build a board with series parts, pass its
-/// joined files, in which the two nets of each LINK line are one net.
+/// joined files, in which all nets that LINK lines connect have the same name.
 pub fn board(
     alloc: Global,
     chain: &ChainFile,
