@@ -26,7 +26,8 @@ pairs_at {X} R xs h i j x y less ei ej =
     let Q : X → Type 0 = λ v. R x v in
     subst Q (get_or_from_slice_get xs j y x ej) (subst P (get_or_from_slice_get xs i x x ei) (h i j x less (slice_get_within xs j y ej)))
 
--- two items between which R holds in neither order are the same item of the list
+-- if R holds between each item and every later item, two items between which R holds in neither
+-- order are the same item of the list
 pub one_place : {X : Type 0} (R : X → X → Type 0) (xs : List X) → AllPairs R xs
     → (i j : ℕ) (x y : X) → slice_get xs i ≡ Some x → slice_get xs j ≡ Some y → (R x y → ⊥)
     → (R y x → ⊥) → i ≡ j

@@ -33,7 +33,7 @@ part_of_line (SupplyLine net) devices = None
 part_of_line (PullLine net value) devices = None
 part_of_line (Link part first second) devices = None
 
--- the devices that are left after the line: a DEVICE line takes the first of the devices
+-- the devices that are left after the line: a DEVICE line takes the first of the devices, and every other line takes none
 abbrev pub devices_after : ChainStatement → List RawDevice → List RawDevice
 devices_after (Device part entity pack) devices = drop 1 devices
 devices_after (BypassLine part bits) devices = devices
@@ -42,7 +42,8 @@ devices_after (SupplyLine net) devices = devices
 devices_after (PullLine net value) devices = devices
 devices_after (Link part first second) devices = devices
 
--- the parts of the DEVICE and BYPASS lines, in order; each DEVICE line takes the next device
+-- the parts of the DEVICE and BYPASS lines, in the order of the lines; each DEVICE line takes the
+-- next device, and has no part if no device is left
 abbrev pub chain_parts : List ChainLine → List RawDevice → List Part
 chain_parts [] devices = []
 chain_parts (line ∷ lines) devices =

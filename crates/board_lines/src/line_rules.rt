@@ -190,7 +190,7 @@ pub fn line_fault(
     pull_twice(alloc, &pulls)
 }
 
-/// Returns the names with the role `naming` on these lines, in order.
+/// Returns the names with the role `naming` on these lines, in the order of the lines.
 pub fn names_in<'a>(
     alloc: Global,
     lines: &'a [ChainLine],

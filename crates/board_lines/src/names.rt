@@ -12,7 +12,9 @@ use first_places::{first_places, first_repeat, numbered};
 use indexmap::IndexMap;
 use std::alloc::{AllocError, Global};
 
-/// The role of a name on a line of a chain file.
+/// The role of a name on a line of a chain file. `Part` is a part of the chain, on a DEVICE or BYPASS
+/// line. `Entity` is the entity on a DEVICE line. The others are the names on INERT, SUPPLY and PULL
+/// lines.
 #[derive(Clone, Copy)]
 pub enum Naming {
     Part,

@@ -38,7 +38,7 @@ fn bypass(alloc: Global, name: &Name, length: u32) -> Result<Part, AllocError>
 }
 
 /// Returns the part of a DEVICE or BYPASS line, and None for any other line. A DEVICE line takes
-/// the next device, and has no part if no device is left. The length of a BYPASS line must be from
+/// the next device, and has no part if no device is left. The length on a BYPASS line must be from
 /// 2 to 255 bits.
 fn part_of_line(
     alloc: Global,
@@ -71,8 +71,9 @@ fn push_some(parts: &mut Vec<Part>, part: Option<Part>) -> Result<(), AllocError
     Ok(())
 }
 
-/// Returns the parts of the DEVICE and BYPASS lines, in order. Each DEVICE line takes the next
-/// device. The length on each BYPASS line must be from 2 to 255 bits.
+/// Returns the parts of the DEVICE and BYPASS lines, in the order of the lines. Each DEVICE line
+/// takes the next device, and has no part if no device is left. The length on each BYPASS line must
+/// be from 2 to 255 bits.
 pub fn chain_parts(
     alloc: Global,
     lines: &[ChainLine],
@@ -100,7 +101,7 @@ fn described_name(part: &Part) -> Option<&[u8]>
     }
 }
 
-/// Returns the names of the parts of kind `Described`, in order.
+/// Returns the names of the parts of kind `Described`, in the order of the parts.
 pub fn described_names<'a>(alloc: Global, parts: &'a [Part]) -> Result<Vec<&'a [u8]>, AllocError>
     ensures names { IfOk result
         (λ names. map (λ n. n.now) names.items ≡ described_names parts.now) }

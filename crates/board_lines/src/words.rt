@@ -53,8 +53,8 @@ fn number_at(numbers: &[u32], place: usize) -> u32
     }
 }
 
-/// Appends a word for each pin of a line. The first pin of a line is word 3 of the line, so it can
-/// have at most 2^32 - 3 pins.
+/// Appends a word for each pin of a line. The first pin of a line is word 3 of the line. The line
+/// must have at most 2^32 - 3 pins.
 fn push_line<'a>(
     words: &mut Vec<NetWord<'a>>,
     net: u32,
@@ -78,8 +78,8 @@ fn push_line<'a>(
     Ok(())
 }
 
-/// Returns the words that name pins, on all lines. `numbers` must have the number of each line's
-/// net, and each line must have fewer than 2^32 words.
+/// Returns the words that name pins, in the order of the file. `numbers` must have the number of
+/// each line's net, and each line must have fewer than 2^32 words.
 pub fn net_words<'a>(
     alloc: Global,
     numbers: &[u32],

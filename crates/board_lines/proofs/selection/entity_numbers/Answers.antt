@@ -1,4 +1,4 @@
--- The names of the entities in the code are the names in the definition.
+-- The borrowed names that the function looks up are the names of the entities.
 use Rattle.std.proofs.Common.{◌≡◌, map, ap, subst, ◌∙◌}
 use Rattle.answers.specs.Gives.{Gives}
 use Rattle.board_lines.specs.declared.names.Naming.TheVariants.{Part, Entity}

@@ -1,4 +1,4 @@
--- The names and the places in the code are those in the definition.
+-- The borrowed names and the places that the function computes are those of the definition.
 use Rattle.std.proofs.Common.{◌≡◌, map, subst, rules}
 use Rattle.answers.specs.Gives.{Gives}
 use Rattle.board_lines.specs.declared.names.Naming.TheVariants.{Part, Entity}
