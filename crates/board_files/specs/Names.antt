@@ -7,6 +7,6 @@ use Rattle.board_files.specs.declared.net_file.NetLine.{NetLine}
 abbrev pub same_word : Word → Word → Bool
 same_word = pointwise nat_eq
 
--- the names on the lines, in order
+-- the name on each line, in the order of the lines
 abbrev pub line_names : List NetLine → List Word
 line_names lines = map (λ line. line.name) lines

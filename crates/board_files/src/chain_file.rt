@@ -85,7 +85,7 @@ impl ChainFile {
         ChainFile { lines }
     }
 
-    /// Returns the lines in order.
+    /// Returns the list of the lines.
     pub fn lines(&self) -> &[ChainLine]
         ensures lines { result.now ≡ self.now }
         ensures file { IsChainFile result.now }

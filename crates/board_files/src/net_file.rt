@@ -57,7 +57,7 @@ impl NetFile {
         NetFile { lines }
     }
 
-    /// Returns the lines in order.
+    /// Returns the list of the lines.
     pub fn lines(&self) -> &[NetLine]
         ensures lines { result.now ≡ self.now }
         ensures file { IsNetFile result.now }
@@ -66,7 +66,7 @@ impl NetFile {
     }
 }
 
-/// Returns the names of the nets on the lines, in order.
+/// Returns the name of each line's net, in the order of the lines. A name that is on several lines is in the list several times.
 pub fn line_names<'a>(alloc: Global, lines: &'a [NetLine]) -> Result<Vec<&'a [u8]>, AllocError>
     ensures names { IfOk result (λ names. map (λ n. n.now) names.items ≡ line_names lines.now) }
     ensures count { IfOk result (λ names. vec_len names ≡ length lines.now) }
