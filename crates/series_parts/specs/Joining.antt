@@ -40,7 +40,7 @@ leads (link ∷ links) a b =
     || ((leads links a link.0 && leads links link.1 b)
     || (leads links a link.1 && leads links link.0 b))
 
--- the first of `names` that is joined with this net, or the net's own name if there is none
+-- the first of `names` to which a path of links leads from this net, or the net's own name if there is none
 unfoldable pub joined_name : List Pair → List Word → Word → Word
 joined_name links names name = unwrap_or (find (leads links name) names) name
 

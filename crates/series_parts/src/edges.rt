@@ -41,8 +41,8 @@ fn edge_on(pins: &Pins<'_>, statement: &ChainStatement) -> Option<(usize, usize)
     }
 }
 
-/// Appends the edges of the LINK lines, in order. A LINK line has no edge if one of its pins is on
-/// no line.
+/// Appends the edges of the LINK lines, in the order of these lines. A LINK line has no edge if one
+/// of its pins is on no line of the net file.
 fn push_link_edges(
     edges: &mut Vec<(usize, usize)>,
     pins: &Pins<'_>,
@@ -80,8 +80,8 @@ fn name_edges(alloc: Global, names: &Names<'_>) -> Result<Vec<(usize, usize)>, A
     Ok(edges)
 }
 
-/// Returns the edges between lines that have the same name or that a LINK line joins. `names` must
-/// be the names on the lines of `pins`.
+/// Returns an edge from each line to the first line with the same name, and an edge for each LINK
+/// line both of whose pins are on lines. `names` must be the names on the lines of `pins`.
 pub fn edges(
     alloc: Global,
     chain: &[ChainLine],

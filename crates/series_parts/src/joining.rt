@@ -13,14 +13,15 @@ use crate::pins::Pins;
 use board_files::{ChainFile, NetFile};
 use std::alloc::{AllocError, Global};
 
-/// A chain file and a net file in which joined nets have the same name. The chain file has no LINK line.
+/// A chain file and a net file in which all nets that LINK lines connected have the same name. The chain file has no LINK line.
 #[derive(Drop)]
 pub struct Joined {
     pub chain: ChainFile,
     pub nets: NetFile,
 }
 
-/// Returns the files in which each net has its joined name. `pins` must have the lines of `nets`.
+/// Returns the files in which each net has the name of the first net on the lines that is joined
+/// with it. `pins` must have the lines of `nets`.
 fn renamed_files(
     alloc: Global,
     chain: &ChainFile,

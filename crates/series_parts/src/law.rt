@@ -1,5 +1,6 @@
-//! Laws of joined files. A law is a property that holds for all files, stated as the contract of a
-//! function that does nothing. A function whose proof needs a law calls the law's function.
+//! Laws of joined files, in which all nets that LINK lines connected have the same name. A law is a
+//! property that holds for all files, stated as the contract of a function that does nothing. A
+//! function whose proof needs a law calls the law's function.
 ghost use Rattle.std.specs.Prelude.{◌≡◌, false, List, length, map, Ok};
 ghost use Rattle.std.specs.List.{AllByRecursion};
 ghost use Rattle.board_files.specs.ChainLines.{HasBypassLength};
@@ -25,8 +26,9 @@ pub fn unlinked_files()
 {}
 
 /// A joined chain file has no LINK line. Its DEVICE and BYPASS lines, and the line numbers of all
-/// its lines, are those of the chain file. A joined net file has the line numbers and the pins of
-/// the net file, line by line.
+/// its lines, are those of the chain file. If the lengths on the chain file's BYPASS lines are from
+/// 2 to 255 bits, so are those of the joined chain file. A joined net file has the line numbers and
+/// the pins of the net file, line by line. Both files keep their numbers of lines.
 pub fn kept_lines()
     ensures links { (chain : List ChainLine) (nets : List NetLine)
         → has_link (joined_chain chain nets) ≡ false }

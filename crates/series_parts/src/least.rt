@@ -11,8 +11,8 @@ use crate::pins::Pins;
 use board_files::ChainLine;
 use std::alloc::{AllocError, Global};
 
-/// Returns the names on the lines at these indices, in order. Each index must be less than the
-/// number of lines.
+/// Returns the names on the lines at these indices, in the order of `places`. Each index must be
+/// less than the number of lines.
 fn names_at<'a>(
     alloc: Global,
     names: &Names<'a>,

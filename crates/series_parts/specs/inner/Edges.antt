@@ -26,7 +26,7 @@ edge_of a b = option_and_then (λ a. option_map (λ b. (a, b)) b) a
 unfoldable pub edge_between : List NetLine → Word → Word → Word → Option (ℕ × ℕ)
 edge_between nets part first second = edge_of (pin_place nets part first) (pin_place nets part second)
 
--- the edge between the lines of the two pins of a LINK line, or None for any other line
+-- the edge between the first lines of the two pins of a LINK line; None if one of the pins is on no line, and for any other line
 abbrev pub edge_on : List NetLine → ChainStatement → Option (ℕ × ℕ)
 edge_on nets (Link part first second) = edge_between nets part first second
 edge_on nets (Device part entity pack) = None

@@ -1,4 +1,4 @@
--- The labels that the loop reads reflect all edges.
+-- The labels are read after all edges are joined, so the two ends of each edge have the same label.
 use Rattle.std.proofs.Common.{◌≡◌, length, vec_len, sym, ◌∙◌, arith}
 use Rattle.series_parts.proofs.JoinedLemmas.{labels_read, if_ok_both, ends_within}
 use Rattle.series_parts.proofs.classes.labels.Goals as goal

@@ -1,4 +1,4 @@
--- The names on the lines that are the labels give the joined name of every net.
+-- The joined name of a line's net is the name on the line that is its label.
 use Rattle.std.proofs.Common.{◌≡◌, length, map, ap, sym, ◌∙◌, Bor, List, ℕ}
 use Rattle.std.proofs.lemmas.Result.{IfOk-weaker}
 use Rattle.series_parts.specs.inner.Edges.{edges}
