@@ -3,8 +3,8 @@ use Rattle.std.specs.Prelude.{◌≡◌, ◌⊎◌, List, [], ◌∷◌, Option,
 use Rattle.btest_core.specs.declared.fault.InputFault.{InputFault}
 use Rattle.btest_core.specs.declared.fault.InputFault.TheVariants.{Memory}
 
--- the answer of two steps: the answer of the next step for the first step's value, or the first
--- step's fault
+-- the answer of two steps: the answer that the second step gives for the first step's value, or the
+-- first step's fault
 abbrev pub IsAnswerOfSteps : {A B : Type 0} → (Result A InputFault → Type 0)
     → (A → Result B InputFault → Type 0) → Result B InputFault → Type 0
 IsAnswerOfSteps {A} first next answer =

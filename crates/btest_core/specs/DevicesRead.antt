@@ -28,8 +28,8 @@ package_in (LinkLine part first second) = None
 abbrev pub Chosen : Type 0
 Chosen = ℕ × Option (List ℕ)
 
--- the choices of the DEVICE lines, in order; `numbers` has the number of the text for each of these
--- lines
+-- the choices of the DEVICE lines, in the order of the lines; `numbers` has the number of the text
+-- for each of these lines
 abbrev pub chosen_texts : List ChainLine → List ℕ → List Chosen
 chosen_texts lines numbers = zip numbers (filter_map (λ line. package_in line.statement) lines)
 
@@ -52,8 +52,8 @@ IsDeviceIn entity choice (Err (Memory error)) = ⊥
 abbrev pub IsDeviceOf : List Entity → Chosen → Result RawDevice InputFault → Type 0
 IsDeviceOf entities choice answer = (entity : Entity) × (slice_get entities choice.0 ≡ Some entity) × IsDeviceIn entity choice answer
 
--- the answer is the devices of the DEVICE lines, in order, or the first fault; a fault of the
--- selection comes before the faults of the devices
+-- the answer is the devices of the DEVICE lines, in the order of the lines, or the first fault; a
+-- fault of the selection comes before the faults of the devices
 abbrev pub AreSelected : List ChainLine → List Entity → Result (List RawDevice) InputFault → Type 0
 AreSelected lines entities =
     IsAnswerOfSteps (Is (in_board (selection lines entities)))

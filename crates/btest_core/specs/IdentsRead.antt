@@ -25,11 +25,11 @@ is_bypass (Supply net) = false
 is_bypass (Pull net value) = false
 is_bypass (LinkLine part first second) = false
 
--- the number of the first BYPASS line
+-- the line number of the first BYPASS line, if there is one
 abbrev pub first_bypass : List ChainLine → Option ℕ
 first_bypass lines = option_map (λ line. line.line) (find (λ line. is_bypass line.statement) lines)
 
--- the patterns of these devices, or the fault of the first BYPASS line if there is one
+-- the patterns of these devices, or the fault of the first BYPASS line if its line number is given
 abbrev pub idents_unless : Option ℕ → List RawDevice → Result (List Ident) InputFault
 idents_unless None devices = Ok (map (λ device. device.idcode) devices)
 idents_unless (Some line) devices = Err (NoIdent line)

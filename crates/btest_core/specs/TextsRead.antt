@@ -14,7 +14,7 @@ use Rattle.btest_core.specs.declared.fault.InputFault.{InputFault}
 use Rattle.btest_core.specs.declared.fault.InputFault.TheVariants.{Chain, Nets, Lex, Parse, Board, Device, Link, NoIdent, Memory}
 use Rattle.btest_core.specs.Answers.{EachOf}
 
--- the text consists of tokens that derive the entity
+-- the text has these tokens, and the grammar derives the entity from them
 pub record IsEntity (text : List ℕ) (entity : Entity) : Type 0 where
   pub tokens : List Token
   pub are : AreTokens text tokens
@@ -26,7 +26,7 @@ pub record IsLexFault (text : List ℕ) (fault : LexFault) : Type 0 where
   pub tokens : List Token
   pub stops : lexer.IsLexerFault text tokens fault
 
--- the text consists of tokens that derive no entity, and `fault` says why
+-- the text has these tokens, the grammar derives no entity from them, and `fault` says why
 pub record IsParseFault (text : List ℕ) (fault : ParseFault) : Type 0 where
   pub tokens : List Token
   pub are : AreTokens text tokens
@@ -52,7 +52,7 @@ IsEntityOf text n (Err fault) = IsTextFault text n fault
 abbrev pub IsEntityOfText : ℕ × List ℕ → Result Entity InputFault → Type 0
 IsEntityOfText numbered = IsEntityOf numbered.1 numbered.0
 
--- the answer for the texts is their entities in order, or the first fault of the first text that
--- has a fault
+-- the answer for the texts is their entities, in the order of the texts, or the first fault of the
+-- first text that has a fault
 abbrev pub AreEntities : List (List ℕ) → Result (List Entity) InputFault → Type 0
 AreEntities texts = EachOf IsEntityOfText (enumerate_from 0 texts)

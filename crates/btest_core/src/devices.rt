@@ -79,8 +79,9 @@ fn is_same_package(a: Option<&[u8]>, b: Option<&[u8]>) -> bool
     }
 }
 
-// Returns the index of the first choice before choice `i` that is the same, or None if there is no
-// such choice.
+// Returns the index of the first choice before choice `i` that equals choice `i`, or None if there
+// is no such choice. A choice is the number of a text and the package on a DEVICE line, if the line
+// has one. `i` must be the index of a choice.
 fn earlier(chosen: &[(u32, Option<&[u8]>)], i: usize) -> Option<usize>
     requires { i < length chosen.now }
     ensures before { IfSome result (λ j. j < i) }
@@ -97,7 +98,7 @@ fn earlier(chosen: &[(u32, Option<&[u8]>)], i: usize) -> Option<usize>
 }
 
 // Returns the device of choice `i`. `devices` has the devices of the earlier choices. If an earlier
-// choice is the same, copies its device.
+// choice equals choice `i`, copies its device.
 fn next_device(
     alloc: Global,
     entities: &[Entity],
@@ -119,7 +120,7 @@ fn next_device(
     }
 }
 
-// Returns the device of each choice among the entities, in order, or the first fault.
+// Returns the device of each choice, in the order of the choices, or the first fault.
 fn chosen_devices(
     alloc: Global,
     entities: &[Entity],
@@ -153,7 +154,8 @@ fn package_in(statement: &ChainStatement) -> Option<Option<&[u8]>>
     }
 }
 
-// Returns the packages of the DEVICE lines, in order.
+// Returns the packages on the DEVICE lines, in the order of the lines. The item of a line without a
+// package is `None`.
 fn packages<'a>(alloc: Global, lines: &'a [ChainLine]) -> Result<Vec<Option<&'a [u8]>>, AllocError>
     ensures { IfOk result
         (λ list. map option_copied list.items
@@ -168,8 +170,8 @@ fn packages<'a>(alloc: Global, lines: &'a [ChainLine]) -> Result<Vec<Option<&'a 
     Ok(list)
 }
 
-// Returns the choices of the DEVICE lines, in order. A choice is the number of a text, from
-// `numbers`, and the package if the line has one.
+// Returns the choices of the DEVICE lines, in the order of the lines. A choice is the number of a
+// text, from `numbers`, and the package if the line has one.
 fn chosen<'a>(
     alloc: Global,
     lines: &'a [ChainLine],
@@ -200,8 +202,8 @@ fn zipped<'a>(
     Ok(list)
 }
 
-// Returns the number of the text that each DEVICE line selects, in order, or the first fault of the
-// chain.
+// Returns the number of the text that each DEVICE line selects, in the order of the lines, or the
+// first fault of the chain.
 fn numbers(alloc: Global, file: &ChainFile, entities: &[Entity]) -> Result<Vec<u32>, InputFault>
     requires { length entities.now < 2 ^ 32 }
     ensures numbers { Gives input_told (λ numbers. numbers.items)
@@ -218,8 +220,8 @@ fn numbers(alloc: Global, file: &ChainFile, entities: &[Entity]) -> Result<Vec<u
     }
 }
 
-// Returns the devices of the DEVICE lines, in order, or the first fault. `numbers` has the number
-// of the text for each of these lines.
+// Returns the devices of the DEVICE lines, in the order of the lines, or the first fault. `numbers`
+// has the number of the text for each of these lines.
 fn devices_by(
     alloc: Global,
     lines: &[ChainLine],
@@ -237,8 +239,8 @@ fn devices_by(
     chosen_devices(alloc, entities, &chosen)
 }
 
-// Returns the devices that the DEVICE lines select among the entities, in order, or the first
-// fault.
+// Returns the devices that the DEVICE lines select among the entities, in the order of the lines, or
+// the first fault.
 fn selected_devices(
     alloc: Global,
     file: &ChainFile,
@@ -257,9 +259,9 @@ fn selected_devices(
     }
 }
 
-/// Returns the devices of the DEVICE lines of a chain, in order, or the first fault. Looks for
-/// faults in this order: the texts, the board rules on the chain, and the devices. Each text must
-/// have fewer than 2^32 bytes, and there must be fewer than 2^32 texts.
+/// Returns the devices of the DEVICE lines of a chain, in the order of the lines, or the first
+/// fault. Looks for faults in this order: the texts, the board rules on the chain, and the devices.
+/// Each text must have fewer than 2^32 bytes, and there must be fewer than 2^32 texts.
 pub(crate) fn devices(
     alloc: Global,
     file: &ChainFile,

@@ -26,7 +26,7 @@ pub enum InputFault {
     /// order in which the caller gives them.
     #[error("{fault}")]
     Lex { text: u32, fault: LexFault },
-    /// The reason why the tokens of a BSDL text derive no entity.
+    /// The reason why the grammar derives no entity from the tokens of a BSDL text.
     #[error("{fault}")]
     Parse { text: u32, fault: ParseFault },
     /// The first board rule that fails.
@@ -38,8 +38,8 @@ pub enum InputFault {
     /// The first LINK pin that is in no net.
     #[error("{0}")]
     Link(LinkFault),
-    /// The number of the chain file's first BYPASS line. Its part has no BSDL description, so it is
-    /// not known which register the part selects after a reset.
+    /// The line number of the chain file's first BYPASS line. The part on it has no BSDL
+    /// description, so it is not known which register the part selects after a reset.
     #[error("line {0}: part without a description")]
     NoIdent(u32),
     #[error("out of memory")]

@@ -26,7 +26,8 @@ fn ident_of(alloc: Global, device: &Device) -> Result<Option<Code>, AllocError>
     }
 }
 
-// Returns the patterns of these devices, in order.
+// Returns the patterns of the identification codes of these devices, in the order of the devices.
+// The item of a device without such a code is `None`.
 fn idents_of(alloc: Global, devices: &[Device]) -> Result<Vec<Option<Code>>, AllocError>
     ensures idents { IfOk result
         (λ idents. idents.items ≡ map (λ device. device.idcode) devices.now) }

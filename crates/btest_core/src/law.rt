@@ -44,8 +44,8 @@ pub fn inputs_have_one_answer()
 }
 
 /// A device that a text denotes keeps the rules of a device, and a board that texts denote keeps
-/// the rules of a board. The answer for the identification codes of a chain has 1 to 255 items, and
-/// each pattern among them has 32 symbols.
+/// the rules of a board. If the answer for the identification codes of a chain is a list, the list
+/// has 1 to 255 items, and each pattern among them has 32 symbols.
 pub fn inputs_keep_rules()
     ensures device { (text : List ℕ) (device : RawDevice) → IsDeviceText text (Ok device)
         → IsDevice device }

@@ -41,9 +41,9 @@ fn tokens_of(alloc: Global, bytes: &[u8], text: u32) -> Result<Vec<Token>, Input
     }
 }
 
-/// Returns the entities that BSDL texts describe, in order, or the first fault of the first text
-/// that has a fault. Each text must have fewer than 2^32 bytes, and there must be fewer than 2^32
-/// texts.
+/// Returns the entities that BSDL texts describe, in the order of the texts, or the first fault of
+/// the first text that has a fault. Each text must have fewer than 2^32 bytes, and there must be
+/// fewer than 2^32 texts.
 pub(crate) fn entities(alloc: Global, texts: &[Vec<u8>]) -> Result<Vec<Entity>, InputFault>
     requires each { All (λ text. length text.items < 2 ^ 32) texts.now }
     requires count { length texts.now < 2 ^ 32 }

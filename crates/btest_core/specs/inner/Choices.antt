@@ -13,7 +13,7 @@ Lent = ℕ × Option (Bor (List ℕ))
 abbrev pub choices_of : List Lent → List Chosen
 choices_of chosen = map (λ choice. (choice.0, option_copied choice.1)) chosen
 
--- each device belongs to the choice with the same index
+-- each device is the device of the choice with the same index
 abbrev pub AreOfChoices : List Entity → List Chosen → List RawDevice → Type 0
 AreOfChoices entities choices devices =
     (i : ℕ) (choice : Chosen) (device : RawDevice) → slice_get choices i ≡ Some choice

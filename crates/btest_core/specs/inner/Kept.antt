@@ -9,8 +9,9 @@ use Rattle.board_lines.specs.Names.{named}
 use Rattle.board_lines.specs.declared.names.Naming.TheVariants.{Entity as EntityName}
 use Rattle.series_parts.specs.declared.joining.Joined.{Joined}
 
--- The joined chain file keeps the properties `is_chain` and `lengths` of the chain file, and names
--- the same entities.
+-- If the chain file has 1 to 255 parts with different names, so has the joined chain file. If the
+-- lengths on the BYPASS lines are in range, so are those of the joined chain file. Both files name
+-- the same entities, on the same lines.
 pub record Kept (chain : List ChainLine) (nets : List NetLine) (joined : Joined) : Type 0 where
   pub is_chain : IsChain chain → IsChain joined.chain
   pub lengths : AllByRecursion (λ line. HasBypassLength line.statement) chain
