@@ -1,5 +1,6 @@
 -- Lemmas about the command that `clap` finds in words that are not flags. A walk is the state of
--- `clap` after it has read some words.
+-- `clap` after it has read some words. The shape of a command is the record of its arguments and
+-- settings.
 use Rattle.std.proofs.Common.{◌≡◌, refl, sym, ap, subst, ◌∙◌, true, false, Bool, List, [], ◌∷◌, ◌++◌, codes, ℕ, cond, Option, Some, None, inl, inr, ◌⊎◌, append_assoc, append-nil}
 use Rattle.std.specs.Prelude.{fold, is_some, not, ◌||◌, find, unwrap_or, option_map, option_and_then, length, nat_le, if◌then◌else◌, slice_get}
 use Rattle.std.specs.List.{list_all}

@@ -45,31 +45,32 @@ number_of most word =
     && is_within 1 most (digits_value 10 word) then Some (digits_value 10 word) else None
 
 -- the file names of a chain that these words give: a chain file, then BSDL names; `None` if there
--- are more than 255 BSDL names
+-- are no words or more than 255 BSDL names
 abbrev pub chain_of : List Text → Option ChainNames
 chain_of [] = None
 chain_of (chain ∷ names) = with_names names (record { chain = chain; bsdl = names })
 
--- the command `device` that these words give: one BSDL name
+-- the command `device` that these words give: one BSDL name; `None` for any other number of words
 abbrev pub device_of : List Text → Option Command
 device_of [] = None
 device_of (name ∷ []) = Some (Device name)
 device_of (name ∷ other ∷ others) = None
 
 -- the file names of a board that these words give: a chain file and a net file, then BSDL names;
--- `None` if there are more than 255 BSDL names
+-- `None` if there are fewer than two words or more than 255 BSDL names
 abbrev pub board_names_of : List Text → Option BoardNames
 board_names_of [] = None
 board_names_of (chain ∷ []) = None
 board_names_of (chain ∷ nets ∷ names) = with_names names (record { chain = chain; nets = nets; bsdl = names })
 
--- the command `make` that these words give: one number of parts
+-- the command `make` that these words give: one number of parts, from 1 to 255; `None` for other words
 abbrev pub make_of : List Text → Option Command
 make_of [] = None
 make_of (number ∷ []) = option_map Make (number_of most_made number)
 make_of (number ∷ other ∷ others) = None
 
--- the command that these words give: a number of workers, a file of response logs, and the file names of a board
+-- The command that these words give: a number of workers, a file of response logs, and the file names of a board. It is `None` if a
+-- word is missing, the number of workers is not from 1 to 64, or there are more than 255 BSDL names.
 abbrev pub worked_of : (ℕ → Text → BoardNames → Command) → List Text → Option Command
 worked_of command [] = None
 worked_of command (workers ∷ []) = None
@@ -116,15 +117,15 @@ parsed (word ∷ rest) =
 abbrev pub command_of : List Text → Option Command
 command_of words = if list_all is_plain words then parsed words else None
 
--- the file names of a chain, in order
+-- the file names of a chain: the chain file, then the BSDL files
 abbrev pub chain_names : ChainNames → List Text
 chain_names names = names.chain ∷ names.bsdl
 
--- the file names of a board, in order
+-- the file names of a board: the chain file, the net file, then the BSDL files
 abbrev pub board_names : BoardNames → List Text
 board_names names = names.chain ∷ names.nets ∷ names.bsdl
 
--- the names of the files that a command reads, in order
+-- the names of the files that a command reads, in the order of the command line
 abbrev pub names_in_command : Command → List Text
 names_in_command (Chain names) = chain_names names
 names_in_command (Ident names) = chain_names names

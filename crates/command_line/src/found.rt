@@ -13,8 +13,9 @@ use crate::number::{PartCount, WorkerCount};
 use clap::ArgMatches;
 use std::alloc::{AllocError, Global};
 
-/// Returns the command that `clap` found. Returns `None` if a number is out of range or there are
-/// more than 255 BSDL names. The only error is lack of memory.
+/// Returns the command that `clap` found. Returns `None` if there is no such command, an argument is
+/// missing, a number is out of range, or there are more than 255 BSDL names. The only error is lack
+/// of memory.
 pub fn command_in<'a>(
     alloc: Global,
     matches: &ArgMatches<'a>,
@@ -123,7 +124,8 @@ fn few_names<'a>(alloc: Global, names: &[&'a str]) -> Result<Option<BsdlNames<'a
     Ok(Some(BsdlNames::of(names)))
 }
 
-// Returns the file names of a chain, or `None` if there are more than 255 BSDL names.
+// Returns the file names of a chain, or `None` if the name of the chain file is missing or there are
+// more than 255 BSDL names.
 fn chain_in<'a>(alloc: Global, found: &ArgMatches<'a>) -> Result<Option<ChainNames<'a>>, AllocError>
     ensures { IfOk result (λ names. names ≡ chain_in (rows_of (found_of found.now))) }
 {
@@ -140,7 +142,8 @@ fn chain_in<'a>(alloc: Global, found: &ArgMatches<'a>) -> Result<Option<ChainNam
     }
 }
 
-// Returns the file names of a board, or `None` if there are more than 255 BSDL names.
+// Returns the file names of a board, or `None` if the name of the chain file or of the net file is
+// missing or there are more than 255 BSDL names.
 fn board_in<'a>(alloc: Global, found: &ArgMatches<'a>) -> Result<Option<BoardNames<'a>>, AllocError>
     ensures { IfOk result (λ names. names ≡ board_in (rows_of (found_of found.now))) }
 {
@@ -161,7 +164,7 @@ fn board_in<'a>(alloc: Global, found: &ArgMatches<'a>) -> Result<Option<BoardNam
     }
 }
 
-// Returns the command `chain`, or `None` if there are more than 255 BSDL names.
+// Returns the command `chain`, or `None` if an argument is missing or there are more than 255 BSDL names.
 fn chain_command<'a>(
     alloc: Global,
     found: &ArgMatches<'a>,
@@ -174,7 +177,7 @@ fn chain_command<'a>(
     }
 }
 
-// Returns the command `ident`, or `None` if there are more than 255 BSDL names.
+// Returns the command `ident`, or `None` if an argument is missing or there are more than 255 BSDL names.
 fn ident_command<'a>(
     alloc: Global,
     found: &ArgMatches<'a>,
@@ -195,7 +198,7 @@ fn device_command<'a>(found: &ArgMatches<'a>) -> Option<NamedCommand<'a>>
     Some(Command::Device(FileName::of(bsdl)))
 }
 
-// Returns the command `cover`, or `None` if there are more than 255 BSDL names.
+// Returns the command `cover`, or `None` if an argument is missing or there are more than 255 BSDL names.
 fn cover_command<'a>(
     alloc: Global,
     found: &ArgMatches<'a>,
@@ -208,7 +211,7 @@ fn cover_command<'a>(
     }
 }
 
-// Returns the command `svf`, or `None` if there are more than 255 BSDL names.
+// Returns the command `svf`, or `None` if an argument is missing or there are more than 255 BSDL names.
 fn svf_command<'a>(
     alloc: Global,
     found: &ArgMatches<'a>,
@@ -221,7 +224,7 @@ fn svf_command<'a>(
     }
 }
 
-// Returns the command `walk`, or `None` if there are more than 255 BSDL names.
+// Returns the command `walk`, or `None` if an argument is missing or there are more than 255 BSDL names.
 fn walk_command<'a>(
     alloc: Global,
     found: &ArgMatches<'a>,
@@ -234,7 +237,7 @@ fn walk_command<'a>(
     }
 }
 
-// Returns the command `make`, or `None` if the number of parts is out of range.
+// Returns the command `make`, or `None` if the number of parts is missing or out of range.
 fn make_command<'a>(found: &ArgMatches<'a>) -> Option<NamedCommand<'a>>
     ensures { result ≡ make_in (rows_of (found_of found.now)) }
 {
@@ -242,15 +245,15 @@ fn make_command<'a>(found: &ArgMatches<'a>) -> Option<NamedCommand<'a>>
     Some(Command::Make(parts))
 }
 
-// Returns the number of workers, or `None` if it is out of range.
+// Returns the number of workers, or `None` if it is missing or out of range.
 fn workers_in(found: &ArgMatches) -> Option<WorkerCount>
     ensures { result ≡ workers_in (rows_of (found_of found.now)) }
 {
     WorkerCount::of_word(word_in(found, "WORKERS")?)
 }
 
-// Returns the command `diagnose`, or `None` if the number of workers is out of range or there are more than 255 BSDL
-// names.
+// Returns the command `diagnose`, or `None` if an argument is missing, the number of workers is out of range, or there are more
+// than 255 BSDL names.
 fn diagnose_command<'a>(
     alloc: Global,
     found: &ArgMatches<'a>,
@@ -270,7 +273,7 @@ fn diagnose_command<'a>(
     }
 }
 
-// Returns the command `groups`, or `None` if there are more than 255 BSDL names.
+// Returns the command `groups`, or `None` if an argument is missing or there are more than 255 BSDL names.
 fn groups_command<'a>(
     alloc: Global,
     found: &ArgMatches<'a>,
@@ -289,7 +292,8 @@ fn groups_command<'a>(
     }
 }
 
-// Returns the command `batch`, or `None` if the number of workers is out of range or there are more than 255 BSDL names.
+// Returns the command `batch`, or `None` if an argument is missing, the number of workers is out of range, or there are more than
+// 255 BSDL names.
 fn batch_command<'a>(
     alloc: Global,
     found: &ArgMatches<'a>,

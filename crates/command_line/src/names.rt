@@ -64,7 +64,7 @@ impl<'a> BsdlNames<'a> {
         BsdlNames { names }
     }
 
-    /// Returns the names in order.
+    /// Returns the list of the names.
     pub fn as_slice(&self) -> &[&'a str]
         ensures names { map (λ name. name.now) result.now ≡ self.now }
         ensures few { length result.now ≤ most_names }

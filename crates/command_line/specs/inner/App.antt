@@ -31,7 +31,8 @@ top_app =
       disable_help_subcommand = true;
     }) (new_app (codes "btest"))
 
--- a command with its words, and then the argument for the BSDL file names, if it has them
+-- the `clap` command of a command of the grammar: an argument for each word, and then, if the command takes BSDL file names, the
+-- argument for them
 abbrev pub entry_app : Entry → App
 entry_app entry = if entry.has_names then with_rule (worded_app entry.name entry.words) names_rule else worded_app entry.name entry.words
 

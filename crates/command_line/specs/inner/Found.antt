@@ -17,14 +17,14 @@ bsdl_in rows = unwrap_or (all_of (codes "BSDL") rows) []
 abbrev pub few_in : List Row → Option (List Text)
 few_in rows = with_names (bsdl_in rows) (bsdl_in rows)
 
--- the file names of a chain in the rows
+-- the file names of a chain in the rows; `None` if the chain file is missing or there are more than 255 BSDL names
 abbrev pub chain_in : List Row → Option ChainNames
 chain_in rows =
     option_and_then
     (λ chain. option_map (λ bsdl. record { chain = chain; bsdl = bsdl }) (few_in rows))
     (first_of (codes "CHAIN") rows)
 
--- the file names of a board in the rows
+-- the file names of a board in the rows; `None` if the chain file or the net file is missing or there are more than 255 BSDL names
 abbrev pub board_in : List Row → Option BoardNames
 board_in rows =
     option_and_then
@@ -32,7 +32,7 @@ board_in rows =
     (λ nets. option_map (λ bsdl. record { chain = chain; nets = nets; bsdl = bsdl })
     (few_in rows)) (first_of (codes "NETS") rows)) (first_of (codes "CHAIN") rows)
 
--- the command `device` with the file name in the rows
+-- the command `device` with the file name in the rows; `None` if there is no file name
 abbrev pub device_in : List Row → Option Command
 device_in rows = option_map Device (first_of (codes "BSDL") rows)
 
