@@ -8,7 +8,7 @@ use board_defs::Spot;
 use bt_base::{PutFault, Sink};
 use itoa::Buffer;
 
-// Writes the first piece, and then the other pieces in order.
+// Writes the first piece, and then the pieces in `others`, from the first to the last.
 pub fn put_all<N: Sink>(first: &[u8], others: &[&[u8]], notes: &mut N) -> Result<(), PutFault>
     ensures { Puts (N.shown notes.old) (N.shown notes.new)
         (first.now ++ whole (map (λ p. p.now) others.now)) result }

@@ -95,7 +95,7 @@ fn put_lex_fault<N: Sink>(name: &str, fault: &LexFault, notes: &mut N) -> Result
     }
 }
 
-// Writes the line for the first point at which a BSDL text leaves the grammar.
+// Writes the line for the first point at which a BSDL text does not fit the grammar.
 fn put_parse_fault<N: Sink>(name: &str, fault: &ParseFault, notes: &mut N) -> Result<(), PutFault>
     ensures { Puts (N.shown notes.old) (N.shown notes.new) (parse_fault_line name.now fault.now)
         result }
@@ -128,7 +128,7 @@ fn put_rule<N: Sink>(name: &str, rule: u32, item: u32, notes: &mut N) -> Result<
     )
 }
 
-// Writes the line for a string that leaves its grammar.
+// Writes the line for a string that does not fit its grammar. `entry` is its first entry that does not fit.
 fn put_string_fault<N: Sink>(
     name: &str,
     attribute: u32,
@@ -153,8 +153,8 @@ fn put_string_fault<N: Sink>(
     )
 }
 
-// Writes the line for the first rule that a device breaks, or the first of its strings that leaves
-// its grammar.
+// Writes the line for the first rule that a device breaks, or the first of its strings that does not
+// fit its grammar.
 fn put_device_fault<N: Sink>(name: &str, fault: &DeviceFault, notes: &mut N) -> Result<(), PutFault>
     ensures { Puts (N.shown notes.old) (N.shown notes.new) (device_fault_line name.now fault.now)
         result }
