@@ -7,7 +7,8 @@ use Rattle.grammars.proofs.Turns.{Shrinks, keeps, decides_turns, shrinks_place, 
 use Rattle.grammars.specs.inner.Reader.{Outcome, read_on, found, refused}
 use Rattle.grammars.specs.inner.Reader as reader
 
--- each list that the grammar derives has at least one token
+-- The form of the grammar shows that each list that it derives has at least one token: `place`
+-- derives one token, and one of the two parts of `in_turn` derives at least one.
 abbrev pub TakesToken : {T A : Type 0} → Grammar T A → Type 0
 TakesToken (place value) = Unit {0}
 TakesToken (done a) = ⊥
