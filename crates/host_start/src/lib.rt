@@ -26,8 +26,8 @@ fn words(rt: &(impl Env + AllocGlobal)) -> io::Result<Vec<String>> {
     Ok(words)
 }
 
-// Runs these words, and returns the exit status. The text goes to `out`, and a line for standard
-// error to `notes`.
+// Runs the command that these words form, and returns the exit status. The command's output goes to
+// `out`, and a line for standard error to `notes`.
 fn end_with<R: Threads + Sync, S: Store, K: Sink, N: Sink>(
     rt: &R,
     alloc: Global,
@@ -42,7 +42,8 @@ fn end_with<R: Threads + Sync, S: Store, K: Sink, N: Sink>(
     run(rt, alloc, words, store, out, notes, &OpenGate).number()
 }
 
-// Ends a run for which the system gave no words, and returns the exit status. If memory ran out, writes nothing.
+// Ends a run for which the system gave no words, and returns the exit status. If memory ran out, writes nothing and returns 5.
+// Otherwise writes the usage line to `notes` and returns 2.
 fn end_without<N: Sink>(error: &io::Error, notes: &mut N) -> u8
     ensures no_words { error_kind error.now ≢ ErrorKind.OutOfMemory
         → (result ≡ 2) × TookOrCut (N.shown notes.old) (N.shown notes.new) usage_line }
@@ -66,11 +67,13 @@ fn end_of<R: Threads + Sync, S: Store, K: Sink, N: Sink>(
     out: &mut K,
     notes: &mut N,
 ) -> u8
-    // If the system gave words, this is the end of a run of these words.
+    // If the system gave words, the command that they form was run.
     ensures run { IfOk words.now (λ words. IsEndOf words.items (S.held store.old) (S.faults store.old) (S.faults store.new) (S.asked store.old) (S.asked store.new)
         (K.shown out.old) (K.shown out.new) (N.shown notes.old) (N.shown notes.new) result) }
 
-    // If the system gave no words, nothing was read, and nothing was written to `out`.
+    // If the system gave no words, nothing was read, and nothing was written to `out`. If memory
+    // ran out, the status is 5. Otherwise the status is 2, and the usage line was written to
+    // `notes`, or its first bytes if a write failed.
     ensures no_words { IfErr words.now (λ error. error_kind error ≢ ErrorKind.OutOfMemory
         → (result ≡ 2) × TookOrCut (N.shown notes.old) (N.shown notes.new) usage_line) }
     ensures no_memory { IfErr words.now (λ error. error_kind error ≡ ErrorKind.OutOfMemory
@@ -84,8 +87,9 @@ fn end_of<R: Threads + Sync, S: Store, K: Sink, N: Sink>(
     }
 }
 
-/// Runs the words of the command line on the files of the system and on standard output. Writes a
-/// line for standard error to `notes`. The number of the status is the exit status.
+/// Runs the command that the words of the command line form. Reads files of the system, writes the
+/// output to standard output, and writes a line for standard error to `notes`. Returns the exit
+/// status.
 pub fn start<R, E>(rt: &R, notes: E) -> ExitCode
 where
     R: AllocGlobal + Env + Files + Print + Sync + Threads,
