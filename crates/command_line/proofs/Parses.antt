@@ -380,7 +380,6 @@ named : (name w : Text) (rest : List Text) (command others : Option Command)
     → answer (w ∷ rest) ≡ (if bytes_eq name w then command else others)
 named name w rest command others is else_is = named_by name w rest command others (bytes_eq name w) refl is else_is
 
--- if word `w` differs from `name`, the subcommand `name` does not answer to `w`
 no_name : (name w : Text) → bytes_eq name w ≡ false → answers_to w (name, []) ≡ false
 no_name name w e = ap (λ b. b || false) e
 

@@ -45,7 +45,7 @@ impl PartCount {
         Some(PartCount { number })
     }
 
-    /// Returns the number.
+    /// Returns the number of parts, from 1 to 255.
     pub fn number(self) -> u32
         ensures value { result ≡ self }
         ensures some { 1 ≤ result }
@@ -84,7 +84,7 @@ impl WorkerCount {
         Some(WorkerCount { number })
     }
 
-    /// Returns the number.
+    /// Returns the number of threads, from 1 to 64.
     pub fn number(self) -> u32
         ensures value { result ≡ self }
         ensures some { 1 ≤ result }
