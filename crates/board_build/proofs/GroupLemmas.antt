@@ -148,7 +148,7 @@ at_place {A} P xs i within given = by_get (slice_get xs i) refl
         outside (y ∷ ys) (suc k) h f = outside ys k (omega (arith, h)) f
     by_get (Some x) e = given x (get_or_from_slice_get xs i x x e)
 
--- one step of the loop, whether word `i` is in one of the nets or not
+-- combines `groups_step` and `groups_kept`: one step of the loop for any word `i`
 pub groups_more : (words : List MarkedWord) (i count len : ℕ) (old new : List (List NetPin))
     → i < length words → len ≡ count → length old ≡ len →
     new ≡ groups_after (slice_get words i) len old

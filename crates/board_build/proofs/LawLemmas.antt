@@ -51,7 +51,7 @@ pins_differ parts marks words names apart m n i j first second p q at_p at_q sam
     let r : SameWord m n i j = one_word words apart m n i j a.word b.word a.stands b.stands part pin in
     (r.net, r.place)
 
--- if P holds of the pin that each word gives, P holds of each pin of each net
+-- if `P` holds for the pin made from each word, it holds for each pin of each net
 each_pin : (P : NetPin → Type 0) (parts : List Part) (marks : NetMarks) (words : List NetWord)
     (names : List (List ℕ))
     → ((word : NetWord) → Has words word → P (net_pin marks (word_pin word)))
@@ -102,8 +102,8 @@ inert_alike parts marks words names none = record {
       ap (λ (v : NetPin). v.inert) a.is ∙ ap (is_among marks.inerts) part ∙ sym (ap (λ (v : NetPin). v.inert) b.is);
 }
 
--- a pin that is an always-on driver is made from a word, and `drives_always` is true of the pin
--- that this word names
+-- if a pin is an always-on driver and is made from the word `r.word`, `drives_always` is true of the
+-- pin that this word names
 drives_at : (parts : List Part) (marks : NetMarks) (words : List NetWord) (names : List (List ℕ))
     (n place : ℕ) (net : Net) (pin : NetPin) → slice_get (board_nets marks words names) n ≡ Some net
     →

@@ -93,7 +93,8 @@ pub record SameWord (m n i j : ℕ) : Type 0 where
   pub net : m ≡ n
   pub place : i ≡ j
 
--- if no two words name the same pin, two words with the same pin are the same word of the same net
+-- If no two words name the same pin, a pin determines the word that names it: the number of the net,
+-- and the index of the word among the net's words.
 pub one_word : (words : List NetWord) → Apart (λ a b. have_same_pin a b ≡ false) words
     → (m n i j : ℕ) (a b : NetWord) → slice_get (words_on words m) i ≡ Some a
     → slice_get (words_on words n) j ≡ Some b →
@@ -194,7 +195,6 @@ pins_from marks words first (name ∷ names) =
     (λ word. level first (word_net word)) words in
     omega (arith, step, count, rest, cut)
 
--- all nets together have no more pins than there are words
 pub pins_fit : (marks : NetMarks) (words : List NetWord) (names : List (List ℕ))
     → sum_by (λ (net : Net). length net.pins) (board_nets marks words names) ≤ length words
 pins_fit marks words names =

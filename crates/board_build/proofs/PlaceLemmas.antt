@@ -29,7 +29,8 @@ one_at : (o : Option PinAt) → at_one_place o o true ≡ true
 one_at None = refl
 one_at (Some at) = ap (λ b. b && (at.bit == at.bit)) (eqb_refl at.part) ∙ eqb_refl at.bit
 
--- if two words name their pins by the same two names, their pins are also the same by place
+-- if two words name the same part and the same pin of it, their pins have the same place, or neither
+-- pin has a place
 same_is_one : (parts : List Part) (inerts : List (List ℕ)) (a b : NetWord)
     → have_same_pin a b ≡ true
     → are_one (mark_word parts (pin_places parts) inerts a)

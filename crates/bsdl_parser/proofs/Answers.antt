@@ -39,8 +39,8 @@ halves (x ∷ xs) (y ∷ ys) token r rest e =
 abbrev read : Reader Lexeme Entity
 read = reader_of_grammar file
 
--- If `before` is a prefix of a file, and `before` followed by `token` is not, the reader stops at
--- `token`.
+-- If `before` is a prefix of a file but not a whole file, and `before` followed by `token` is not a
+-- prefix of a file, the reader stops at `token`.
 stops_at : (before : List Lexeme) (token : Lexeme) (after : List Lexeme) → read before ≡ refused []
     → (o : Outcome Lexeme Entity) → read (before ++ token ∷ []) ≡ o → (RunsOut o → ⊥)
     → IsLocalAt read (before ++ token ∷ []) o → read (before ++ token ∷ after) ≡ refused (token ∷ after)

@@ -16,7 +16,6 @@ abbrev pub starts_word : List ℕ → Bool
 starts_word [] = false
 starts_word (byte ∷ bytes) = is_word_byte byte
 
--- the first byte is a blank
 abbrev pub starts_blank : List ℕ → Bool
 starts_blank [] = false
 starts_blank (byte ∷ bytes) = is_string_blank byte

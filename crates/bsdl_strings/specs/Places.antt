@@ -38,7 +38,6 @@ is_mark_piece byte [] = false
 is_mark_piece byte (first ∷ []) = first == byte
 is_mark_piece byte (first ∷ second ∷ bytes) = false
 
--- the first byte is a letter
 abbrev pub starts_with_letter : List ℕ → Bool
 starts_with_letter [] = false
 starts_with_letter (first ∷ bytes) = is_ascii_alphabetic first

@@ -13,7 +13,6 @@ use Rattle.bsdl_parser.specs.declared.entity.Attribute.{Attribute}
 use Rattle.bsdl_parser.specs.declared.entity.Attribute.TheVariants.{ComponentConformance}
 use Rattle.bsdl_parser.specs.AttributeNumbers.{attribute_number}
 
--- the attribute has this number
 abbrev pub is_numbered : ℕ → Attr → Bool
 is_numbered number attribute = attribute.number == number
 
@@ -73,7 +72,6 @@ abbrev pub chosen_package : Entity → Option (List ℕ) → Option (List ℕ)
 chosen_package entity (Some name) = Some name
 chosen_package entity None = entity.fallback
 
--- the constant has this name
 abbrev pub is_constant : List ℕ → Constant → Bool
 is_constant name constant = bytes_eq constant.name name
 

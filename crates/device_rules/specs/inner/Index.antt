@@ -32,7 +32,6 @@ pub record IsIndex (ports : List Port) (starts : List ℕ) : Type 0 where
   pub rule : v2 ports ≡ None
   pub counted : AreBitStarts ports starts
 
--- the item has this name
 abbrev pub is_item_called : {A : Type 0} → (A → List ℕ) → List ℕ → A → Bool
 is_item_called name_in name = λ item. bytes_eq (name_in item) name
 
@@ -81,7 +80,7 @@ is_key (Some key) name index = bytes_eq key.0 name && option_eq nat_eq key.1 ind
 abbrev pub names_bit : List ℕ → Option ℕ → PortWord → Bool
 names_bit name index word = is_key (key_of word) name index
 
--- the words of the compliance patterns
+-- the words that name the bits of the compliance patterns; no words if there are no patterns
 abbrev pub compliance_words : Option Compliance → List PortWord
 compliance_words None = []
 compliance_words (Some compliance) = compliance.ports
