@@ -1,4 +1,4 @@
--- If the draft of a text breaks no rule, its record describes a device.
+-- If a draft, which is a device as its BSDL text states it, breaks no rule, its record keeps the rules of devices.
 use Rattle.std.proofs.Common.{◌≡◌, ◌≤◌, map, length, None, sym, subst, arith}
 use Rattle.std.proofs.lemmas.List.{length-map}
 use Rattle.board_defs.specs.Limits.{most_bits}

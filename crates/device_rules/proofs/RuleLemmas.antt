@@ -1,4 +1,4 @@
--- If a draft breaks no rule, the function of each rule returns None, so each rule holds.
+-- If a draft, which is a device as its BSDL text states it, breaks no rule, the function of each rule returns None, so each rule holds.
 use Rattle.std.proofs.Common.{◌≡◌, ℕ, List, Option, Some, None, Bool, refl, subst}
 use Rattle.device_rules.specs.declared.draft.Draft.{Draft}
 use Rattle.device_rules.specs.declared.broken.Broken.{Broken}

@@ -1,4 +1,4 @@
--- The first rule that a draft breaks.
+-- The first rule that a draft breaks. A draft is a device as its BSDL text states it.
 use Rattle.std.specs.Prelude.{◌≡◌, ℕ, ◌^◌, ◌<◌, length, Option, Some, None, Result, Ok, Err}
 use Rattle.device_rules.specs.declared.draft.Draft.{Draft}
 use Rattle.device_rules.specs.declared.broken.Broken.{Broken}

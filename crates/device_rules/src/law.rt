@@ -1,4 +1,5 @@
-//! Laws of the definitions. Each law is the contract of a function that does nothing.
+//! Laws of the rules on a draft, which is a device as its BSDL text states it. Each law is the contract of a function that
+//! does nothing.
 ghost use Rattle.std.specs.Prelude.{◌≡◌, ℕ, List, Option, None};
 ghost use Rattle.board_defs.specs.declared.device.Edition.{Edition};
 ghost use Rattle.board_defs.specs.declared.device.Symbol.{Symbol};

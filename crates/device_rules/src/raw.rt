@@ -1,4 +1,4 @@
-//! The record of the device that a text without a broken rule describes.
+//! The record of the device that a draft without a broken rule describes. A draft is a device as its BSDL text states it.
 ghost use Rattle.std.specs.Prelude.{◌≡◌, ◌<◌, ◌^◌, ◌++◌, true, map, slice_get, option_and_then, IfOk, OnOk};
 ghost use Rattle.std.specs.Option.{option_copied};
 ghost use Rattle.board_defs.specs.DeviceRules.{IsDevice};

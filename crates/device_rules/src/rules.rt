@@ -1,4 +1,4 @@
-//! Checks the rules V2 to V14 in order.
+//! Checks the rules V2 to V14, in the order of their numbers, on a draft. A draft is a device as its BSDL text states it.
 ghost use Rattle.std.specs.Prelude.{◌≡◌, ◌<◌, All, IfOk};
 ghost use Rattle.device_rules.specs.Rules.{HasShortLists, from_3, from_5, from_8, from_9, from_11, IfSound};
 

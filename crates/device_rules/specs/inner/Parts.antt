@@ -1,4 +1,4 @@
--- The fields of a device's record that are computed from the draft.
+-- The fields of a device's record that are computed from the draft, which is the device as its BSDL text states it.
 use Rattle.std.specs.Prelude.{map}
 use Rattle.device_rules.specs.declared.draft.Draft.{Draft}
 use Rattle.device_rules.specs.declared.raw.Parts.{Parts}
