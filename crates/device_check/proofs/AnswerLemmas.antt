@@ -1,5 +1,5 @@
--- The answer of an entity, from the results of the three steps: V1, the strings, and the rules V2
--- to V14.
+-- The answer of an entity, which is its device or its first fault, from the results of three steps:
+-- V1, the strings, and the rules V2 to V14.
 use Rattle.std.proofs.Common.{◌≡◌, ℕ, List, Option, Result, Ok, Err, inl, inr, refl, sym, subst}
 use Rattle.std.specs.Option.{IfSome}
 use Rattle.board_defs.specs.Limits.{most_bits, most_instruction_bits}

@@ -1,4 +1,4 @@
--- An entity has at most one answer for each package.
+-- An entity has at most one answer for each package. The answer is its device or its first fault.
 use Rattle.std.proofs.Common.{◌≡◌, ℕ, List, [], ◌∷◌, Option, Some, None, Result, Ok, Err, inl, inr, refl, sym, ◌∙◌, ap, subst}
 use Rattle.std.proofs.lemmas.Option.{IfSome_then}
 use Rattle.answers.specs.Gives.{Gives}

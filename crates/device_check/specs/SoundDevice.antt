@@ -29,7 +29,8 @@ taps_of entity found = record {
   reset = port_of_attribute entity TapScanReset;
 }
 
--- the draft of the entity, made from the values that V1 returned and the values of the strings
+-- the draft of the entity, which is the device as its text states it, made from the values that V1 returned and the values of the
+-- strings
 abbrev pub draft_of : Entity → FoundValues → Strings → Draft
 draft_of entity found strings = record {
   entity = entity.name;
@@ -71,7 +72,7 @@ pub record FailsText (entity : Entity) (given : Option (List ℕ)) (attribute en
   pub needed : v1 entity given ≡ Ok found
   pub leaves : LeavesFirst entity found strings_in_order attribute entry
 
--- V1 fails, and `item` is the number of the first source that is missing, repeated or has a wrong value
+-- V1 fails, and `item` is the number of the first attribute that breaks it, or 15 if only the pin map breaks it
 pub record FailsNeed (entity : Entity) (given : Option (List ℕ)) (number item : ℕ) : Type 0 where
   pub number_is : number ≡ rule_number Mandatory
   pub source : Source

@@ -20,9 +20,10 @@ use bsdl_parser::Entity;
 use device_rules::{Draft, DraftFault, Rule, raw_device};
 use std::alloc::Global;
 
-/// Returns the device of a draft, or a fault. The fault is the first of the rules V2 to V14 that the
-/// draft breaks, or lack of memory. The draft's lists must be shorter than 2^32. The instruction
-/// register must have 2 to 255 bits, and the boundary register 1 to 65,535 cells.
+/// Returns the device of a draft, or a fault. A draft is a device as its BSDL text states it. The
+/// fault is the first of the rules V2 to V14 that the draft breaks, or lack of memory. The draft's
+/// lists must be shorter than 2^32. The instruction register must have 2 to 255 bits, and the
+/// boundary register 1 to 65,535 cells.
 fn judge(alloc: Global, draft: Draft) -> Result<Device, DeviceFault>
     requires short { HasShortLists draft }
     requires lengths { HasLengths draft }
@@ -75,7 +76,7 @@ pub fn device(alloc: Global, entity: &Entity, package: Option<&[u8]>) -> Result<
     // fault is the first rule or string that fails. If memory runs out, nothing is claimed.
     ensures answer { Gives device_told (λ device. device)
         (IsDeviceAnswer entity.now (option_copied «package».entry)) result }
-    // There is no other answer.
+    // No other result satisfies the definition.
     ensures only { Gives device_told (λ device. device)
         (λ answer. (other : Result RawDevice DeviceFault)
         → IsDeviceAnswer entity.now (option_copied «package».entry) other → other ≡ answer) result }

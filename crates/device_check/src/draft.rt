@@ -1,4 +1,5 @@
-//! The draft of a device, made from an entity.
+//! The draft of a device, made from an entity. A draft is a device as its BSDL text states it, before the rules V2 to V14
+//! are checked.
 ghost use Rattle.std.specs.Prelude.{◌≡◌, IfOk};
 ghost use Rattle.bsdl_parser.specs.declared.entity.Attribute.TheVariants.{TapScanReset};
 ghost use Rattle.device_check.specs.Attributes.{port_of_attribute};

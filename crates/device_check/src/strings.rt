@@ -29,7 +29,8 @@ pub struct Strings {
     pub entries: Items<Entry>,
 }
 
-/// Returns the fault of the device if `fault` is the fault of the string in this source.
+/// Returns the device fault for `fault`, the fault of the string in this source. A source is an
+/// attribute, or the constant that is the pin map.
 fn fault(source: Source, fault: StringFault) -> DeviceFault
     ensures { result ≡ source_fault source fault }
 {

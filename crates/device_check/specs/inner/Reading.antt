@@ -67,7 +67,7 @@ NamesPlace P (faults.Rule number item) = ⊥
 NamesPlace P (faults.Text attribute entry) = P attribute entry
 NamesPlace P (faults.Memory error) = Unit {0}
 
--- the fault of the device if the string in this source has this fault
+-- The device fault for this fault of the string in this source. A source is an attribute, or the constant that is the pin map.
 abbrev pub source_fault : Source → StringFault → DeviceFault
 source_fault source (At entry) = faults.Text (source_number source) entry
 source_fault source (Memory error) = faults.Memory error
@@ -78,8 +78,8 @@ abbrev pub Gathers : Entity → FoundValues → Result Strings DeviceFault → T
 Gathers entity found (Ok strings) = AreStrings entity found strings
 Gathers entity found (Err fault) = NamesPlace (LeavesFirst entity found strings_in_order) fault
 
--- the draft breaks no rule and the result is its device, or the result is the first rule that fails
--- with the first item that breaks it, or memory ran out
+-- One of three cases holds. The draft, which is the device as its text states it, breaks no rule, and the result is its device. Or the
+-- result is the first rule that the draft breaks, with the first item that breaks it. Or memory ran out.
 abbrev pub IsJudgedDraft : Draft → Result RawDevice DeviceFault → Type 0
 IsJudgedDraft draft (Ok device) = (first_rule draft ≡ None) × (device ≡ raw_device draft)
 IsJudgedDraft draft (Err (faults.Rule number item)) = first_rule draft ≡ Some (record { rule = number; item = item })
