@@ -1,4 +1,4 @@
--- The answer to a text, computed from the result of the grammar's reader.
+-- The answer to a text, which is its entity or its first fault, computed from the result of the grammar's reader.
 use Rattle.std.proofs.Common.{◌≡◌, ℕ, ◌+◌, ◌^◌, ◌<◌, Bool, true, false, List, [], ◌∷◌, ◌++◌, length, inl, inr, Result, Ok, Err, refl, sym, ◌∙◌, ap, subst, arith, append-nil, length-append, ◌&&◌, nat_eq}
 use Rattle.std.proofs.lemmas.Bool.Decides.{nat_tests}
 use Rattle.std.proofs.lemmas.Option.{IfSome_then}

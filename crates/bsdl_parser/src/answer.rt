@@ -81,7 +81,7 @@ pub fn parse(alloc: Global, bytes: &[u8], tokens: &[Token]) -> Result<Entity, Pa
     // out, nothing is claimed.
     ensures answer { Gives parse_told (λ entity. entity)
         (IsParseAnswer bytes.now (lexemes bytes.now tokens.now)) result }
-    // The definition allows no other answer.
+    // No other result satisfies the definition.
     ensures only { Gives parse_told (λ entity. entity)
         (λ answer. (other : Result Entity ParseFault)
         → IsParseAnswer bytes.now (lexemes bytes.now tokens.now) other → other ≡ answer) result }

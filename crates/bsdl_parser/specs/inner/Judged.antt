@@ -1,4 +1,4 @@
--- The answer to a text, computed from the result of the reader of a file.
+-- The answer to a text, which is its entity or its first fault, computed from the result of the reader of a file.
 use Rattle.std.specs.Prelude.{ℕ, List, [], ◌∷◌, length, Bool, ◌&&◌, ◌==◌, if◌then◌else◌, Option, Some, None, Result, Ok, Err, codes}
 use Rattle.grammars.specs.inner.Reader.{Outcome, found, refused}
 use Rattle.bsdl_parser.specs.declared.cursor.Front.{Front}
