@@ -1,4 +1,5 @@
--- A text has exactly one answer, and reading the text in steps finds it.
+-- A text has exactly one answer, and reading the text in steps finds it. The answer is all tokens of the text, or its first fault and the
+-- tokens before it.
 use Rattle.std.proofs.Common.{◌≡◌, ℕ, zero, suc, ◌+◌, ◌-◌, ◌<◌, ◌≤◌, List, [], ◌∷◌, ◌++◌, length, take, drop, Option, Some, None, Result, Ok, Err, ◌⊎◌, inl, inr, refl, sym, ◌∙◌, ap, subst, arith, append_assoc, append-nil, length-append, nat_eq}
 use Rattle.std.specs.Prelude.{IfSome}
 use Rattle.std.proofs.lemmas.Bool.{cases_lt}
@@ -16,7 +17,7 @@ use Rattle.bsdl_lexer.specs.inner.Steps.{token_of, step}
 use Rattle.bsdl_lexer.proofs.Places.{some_bytes}
 use Rattle.bsdl_lexer.proofs.Steps.{Found, next, at_end, open_text, no_token, line_behind, begins_found, step_finds, step_to_token, step_to_begin, step_to_end, step_to_open_text, step_to_byte}
 
--- the lexer's steps that begin at `place` on `line` find these tokens, and end at `to` on `last_line`
+-- a walk: the lexer's steps that begin at `place` on `line` find these tokens, and end at `to` on `last_line`
 abbrev pub Walk : List ℕ → ℕ → ℕ → List Token → ℕ → ℕ → Type 0
 Walk text place line [] to last_line = (place ≡ to) × (line ≡ last_line)
 Walk text place line (token ∷ tokens) to last_line =
@@ -196,8 +197,8 @@ answer_lexed text tokens (Err (TooMany line)) (at, s, b, full) =
     (full, ap (λ n. Err (TooMany n)) s.line_is)
 answer_lexed text tokens (Err (Memory error)) h = absurd h
 
--- two walks from the same place are equal, or one of them stops at a place from which the other
--- continues
+-- two walks from the same place are equal, or one of them stops although the next step finds a token
+-- there, and the other has more tokens
 data Compared (text : List ℕ) (tokens others : List Token) (to line to' line' : ℕ) : Type 0 where
   same : tokens ≡ others → to ≡ to' → line ≡ line' → Compared text tokens others to line to' line'
   first_stops : (token : Token) → step text to line ≡ Ok (Some token)

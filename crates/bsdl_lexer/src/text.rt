@@ -108,7 +108,7 @@ pub fn lex(bytes: &[u8], out: &mut Vec<Token>) -> Result<(), LexFault>
     // On Ok, `out` contains all tokens. On a fault of the text, `out` contains the tokens before
     // the place of the fault, and the fault has the line of this place.
     ensures answer { Gives lex_told (λ done. done) (IsLexAnswer bytes.now out.new.items) result }
-    // The definition allows no other answer.
+    // No other result satisfies the definition.
     ensures only { Gives lex_told (λ done. done)
         (λ answer. (tokens : List Token) (other : Result (Unit {0}) LexFault)
         → IsLexAnswer bytes.now tokens other → (tokens ≡ out.new.items) × (other ≡ answer)) result }
