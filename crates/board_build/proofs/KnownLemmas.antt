@@ -1,4 +1,5 @@
--- A pin with a place belongs to a described part.
+-- A pin with a place belongs to a described part. The place of a pin is the number of its part and the number of its port bit. A part is
+-- described if it has a DEVICE line.
 use Rattle.std.proofs.Common.{◌≡◌, ℕ, ◌+◌, Bool, true, false, cond, ◌&&◌, ◌||◌, List, [], ◌∷◌, Option, Some, None, refl, sym, ap, ◌∙◌}
 use Rattle.std.specs.Prelude.{find, is_some, option_map}
 use Rattle.std.specs.List.{list_any, position_from, cons_option}
@@ -88,8 +89,8 @@ placed_known parts pin = by_test (is_among (described_names parts) pin.0) refl
         ∙ none_placed 0 parts pin
         (sym (some_place (λ name. same_word name pin.0) 0 (described_names parts)) ∙ e))
 
--- the code first asks whether the pin has a place; its answer is still whether the pin's part is
--- described
+-- the Rust function first tests whether the pin has a place, so it need not look up the name of the pin's part; its result is still
+-- whether the part is described
 pub known_same : (parts : List Part) (pin : Pin) (d : Bool) (a : Option PinAt)
     → d ≡ is_among (described_names parts) pin.0 → a ≡ place_of_pin (pin_places parts) pin
     → (is_some a || d) ≡ is_among (described_names parts) pin.0

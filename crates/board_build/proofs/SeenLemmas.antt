@@ -1,5 +1,5 @@
--- The rules on the marked words of the code find the same faults as the rules on the marked words
--- of the definitions.
+-- The Rust functions that check marked words find the same faults as the rules of the definitions. A
+-- marked word is a word of a net file with facts about the pin that it names.
 use Rattle.std.proofs.Common.{◌≡◌, ℕ, zero, suc, ◌==◌, Bool, false, cond, ◌&&◌, List, [], ◌∷◌, length, map, get_or, Some, refl, sym, ap, ◌∙◌, Bor}
 use Rattle.std.specs.Prelude.{slice_get, find, option_map, is_none}
 use Rattle.std.proofs.lemmas.List.{length-map}

@@ -1,4 +1,5 @@
--- The rules on a board's files, in the order in which they are checked.
+-- The rules on a board's files, in the order in which they are checked. A part is described if it has a DEVICE line. The place of a pin is
+-- the number of its part and the number of its port bit. A driver is always on if its cell has no control.
 use Rattle.std.specs.Prelude.{ℕ, ◌==◌, Bool, false, ◌&&◌, ◌||◌, List, filter, find, length, nat_lt, slice_get, sum_by, Option, Some, None, Result, option_map, is_none, if◌then◌else◌}
 use Rattle.std.specs.List.{list_any}
 use Rattle.board_defs.specs.Limits.{most_bits, most_nets, most_pins}

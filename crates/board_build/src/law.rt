@@ -16,7 +16,8 @@ ghost use Rattle.board_lines.specs.ChainParts.{IsChain};
 ghost use Rattle.board_lines.specs.Names.{named};
 ghost use Rattle.board_lines.specs.Selection.{selection};
 
-/// Each number that the selection returns for a DEVICE line is the index of an entity.
+/// The selection finds the entity of each DEVICE line. Each number that it returns is the index of an
+/// entity.
 pub fn selected_are_entities()
     ensures { (lines : List ChainLine) (entities : List Entity) (numbers : List ℕ)
         → selection lines entities ≡ Ok numbers → All (λ number. number < length entities) numbers }

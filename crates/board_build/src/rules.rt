@@ -1,4 +1,5 @@
-// Checks the rules on a board's files, in the order of the definitions.
+// Checks the rules on a board's files, in the order of the definitions. A driver is always on if its
+// cell has no control.
 ghost use Rattle.std.specs.Prelude.{◌≡◌, ◌<◌, ◌≤◌, ◌^◌, ◌==◌, ◌&&◌, length, vec_len, map, filter, find, nat_lt, sum_by, slice_index_or, IfOk, Option, Some, None, option_map, is_none, true, false, if◌then◌else◌};
 ghost use Rattle.std.specs.List.{list_any};
 ghost use Rattle.board_defs.specs.Limits.{most_parts, most_pins};

@@ -1,5 +1,5 @@
 -- The test whether two words name the same pin. It compares the places of the pins, and their names
--- only if neither pin has a place.
+-- only if neither pin has a place. A place is the number of a part and the number of a port bit.
 use Rattle.std.specs.Prelude.{ℕ, ◌==◌, Bool, false, ◌&&◌, List, [], Option, Some, None, slice_index_or}
 use Rattle.std.proofs.Common.{Bor}
 use Rattle.indexmap.specs.IndexSet.{IndexSet, contains}

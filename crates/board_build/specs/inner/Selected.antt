@@ -1,4 +1,4 @@
--- A chain that the selection accepted, with its parts.
+-- A chain in which `select` found the entity of each DEVICE line, with its parts.
 use Rattle.std.specs.Prelude.{◌≡◌, ◌^◌, ◌<◌, List, length, map, All}
 use Rattle.board_defs.specs.declared.board.Part.{Part}
 use Rattle.board_defs.specs.BoardRules.{IsPart}

@@ -1,4 +1,5 @@
--- The words that the function computes are the standing words of the definitions.
+-- The words that the function computes are those of the definition `standing_words`, which leaves out each word that repeats a pin of
+-- its net.
 use Rattle.std.proofs.Common.{◌≡◌, map, ap, subst, ◌∙◌}
 use Rattle.answers.specs.Gives.{Gives}
 use Rattle.board_lines.specs.Faults.{board_told}
