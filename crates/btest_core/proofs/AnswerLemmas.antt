@@ -1,4 +1,4 @@
--- Lemmas about the answer of two steps, of which the second takes the value of the first.
+-- Lemmas about the answer of two steps, of which the second takes the value of the first. An answer is a value or the first fault.
 use Rattle.std.proofs.Common.{inl, inr, Result, Ok, Err, refl}
 use Rattle.std.specs.Prelude.{IfSome}
 use Rattle.std.proofs.lemmas.Option.{IfSome_then}

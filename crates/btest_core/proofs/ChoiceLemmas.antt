@@ -1,4 +1,5 @@
--- Lemmas about a loop that finds the device of each choice.
+-- Lemmas about a loop that finds the device of each choice. A choice is the number of a text and a package. An answer is the list of the
+-- devices or the first fault.
 use Rattle.std.proofs.Common.{inl, inr, ◌⊎◌, ◌≡◌, ℕ, ◌+◌, ◌<◌, ◌≤◌, List, [], ◌∷◌, ◌++◌, map, drop, length, zip, slice_index_or, slice_get, option_map, unwrap_or, zero, suc, Some, None, Ok, Err, ap, sym, refl, ◌∙◌, subst, append_assoc, arith, Option, option_copied}
 use Rattle.std.specs.List.{AllByRecursion, filter_map}
 use Rattle.std.proofs.lemmas.Slice.Zip.{length-zip}

@@ -1,4 +1,4 @@
--- Lemmas about a loop that finds the value of each item of a list.
+-- Lemmas about a loop that finds the value of each item of a list. An answer is the list of the values or the first fault.
 use Rattle.std.proofs.Common.{◌≡◌, List, [], ◌∷◌, ◌++◌, Result, Ok, Err, ap, sym, refl, subst, inl, inr, append_assoc, append-nil}
 use Rattle.btest_core.specs.declared.fault.InputFault.{InputFault}
 use Rattle.btest_core.specs.Answers.{EachOf}

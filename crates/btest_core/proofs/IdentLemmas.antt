@@ -1,4 +1,4 @@
--- The patterns of a chain in which each part is described.
+-- The patterns of the identification codes of a chain without BYPASS lines.
 use Rattle.std.proofs.Common.{◌≡◌, ◌<◌, ◌≤◌, ℕ, List, [], ◌∷◌, map, length, None, refl, arith}
 use Rattle.std.specs.Prelude.{All, IfSome}
 use Rattle.std.specs.List.{AllByRecursion}
@@ -35,7 +35,7 @@ described (line ∷ lines) none = described_more line.line line.statement lines 
 abbrev pub idents_of : List RawDevice → List Ident
 idents_of devices = map (λ device. device.idcode) devices
 
--- if a selected chain has no BYPASS line, it has 1 to 255 patterns
+-- if a chain has 1 to 255 parts with different names, a device for each DEVICE line and no BYPASS line, it has 1 to 255 patterns
 pub count_idents : (lines : List ChainLine) (devices : List RawDevice) → IsChain lines
     → length devices ≡ length (named EntityName lines) → first_bypass lines ≡ None
     → (0 < length (idents_of devices)) × (length (idents_of devices) ≤ most_parts)

@@ -1,4 +1,4 @@
--- A selected chain has 1 to 255 instruction lengths, each of 2 to 255 bits.
+-- A chain of 1 to 255 parts with different names has 1 to 255 instruction lengths, each of 2 to 255 bits.
 use Rattle.std.proofs.Common.{◌≡◌, ℕ, ◌≤◌, List, [], ◌∷◌, length, map, ap, arith}
 use Rattle.std.specs.List.{All, AllByRecursion}
 use Rattle.std.proofs.lemmas.List.{length-map}

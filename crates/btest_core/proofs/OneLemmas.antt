@@ -1,4 +1,4 @@
--- Texts have at most one answer of each kind.
+-- Texts have at most one answer of each kind. An answer is a value or the first fault.
 use Rattle.std.proofs.Common.{◌≡◌, ℕ, List, [], ◌∷◌, Option, Some, None, Result, Ok, Err, ap, sym, ◌∙◌, subst, inl, inr}
 use Rattle.bsdl_lexer.specs.declared.token.Token.{Token}
 use Rattle.bsdl_lexer.specs.declared.token.LexFault.{LexFault}

@@ -1,4 +1,4 @@
--- Texts have at least one answer of each kind.
+-- Texts have at least one answer of each kind. An answer is a value or the first fault.
 use Rattle.std.proofs.Common.{◌≡◌, ◌<◌, ℕ, zero, suc, arith, List, [], ◌∷◌, length, Option, Some, None, slice_get, Result, Ok, Err, refl, inl, inr}
 use Rattle.std.specs.Prelude.{All}
 use Rattle.std.specs.List.{AllByRecursion, enumerate_from, filter_map}

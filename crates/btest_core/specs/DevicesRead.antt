@@ -1,4 +1,4 @@
--- The devices of a chain.
+-- The devices of a chain. An answer is a value or the first fault.
 use Rattle.std.specs.Prelude.{◌≡◌, ℕ, List, Option, Some, None, Result, Ok, Err, slice_get, zip}
 use Rattle.std.specs.List.{filter_map}
 use Rattle.board_defs.specs.declared.device.RawDevice.{RawDevice}

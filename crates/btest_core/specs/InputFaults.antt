@@ -43,7 +43,7 @@ abbrev pub in_board : {A : Type 0} → Result A BoardFault → Result A InputFau
 in_board (Ok value) = Ok value
 in_board (Err fault) = Err (of_board_fault fault)
 
--- a fault of the joined files as a fault of the inputs
+-- a fault of joining the files as a fault of the inputs
 abbrev pub link_fault : LinkFault → InputFault
 link_fault (link.Memory e) = Memory e
 link_fault (link.NoLinkPin spot) = Link (link.NoLinkPin spot)

@@ -1,4 +1,4 @@
--- The entities of BSDL texts.
+-- The entities of BSDL texts. An answer is a value or the first fault.
 use Rattle.std.specs.Prelude.{◌≡◌, ℕ, List, Result, Ok, Err}
 use Rattle.std.specs.List.{enumerate_from}
 use Rattle.bsdl_lexer.specs.declared.token.Token.{Token}

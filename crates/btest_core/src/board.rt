@@ -1,4 +1,5 @@
-// The board of a chain file, a net file and BSDL texts.
+// The board of a chain file, a net file and BSDL texts. It is made from the joined files, in which
+// all nets that LINK lines connected have the same name.
 ghost use Rattle.std.specs.Prelude.{◌≡◌, ◌+◌, ◌<◌, ◌≤◌, ◌^◌, All, IfOk, false, length, map, vec_len};
 ghost use Rattle.board_files.specs.NetLines.{net_lines};
 ghost use Rattle.board_build.specs.BoardRules.{board_of};
