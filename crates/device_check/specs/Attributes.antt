@@ -20,7 +20,7 @@ is_numbered number attribute = attribute.number == number
 abbrev pub times : Entity → Attribute → ℕ
 times entity attribute = count_by (is_numbered (attribute_number attribute)) entity.attributes
 
--- the attribute's value, which is the first one if the entity has several
+-- the attribute's value, which is the first one if the entity has several, or None if the entity does not have the attribute
 abbrev pub value_of_attribute : Entity → Attribute → Option AttrValue
 value_of_attribute entity attribute = option_map (λ found. found.value) (find (is_numbered (attribute_number attribute)) entity.attributes)
 
@@ -54,15 +54,15 @@ port_of_attribute entity attribute = option_and_then port_in (value_of_attribute
 abbrev pub text_of_attribute : Entity → Attribute → Option (List ℕ)
 text_of_attribute entity attribute = option_and_then text_in (value_of_attribute entity attribute)
 
--- the port that is the attribute's value, if the entity has the attribute exactly once
+-- the port that is the attribute's value, if the entity has the attribute exactly once and its value is a port
 abbrev pub only_port : Entity → Attribute → Option (List ℕ)
 only_port entity attribute = option_and_then port_in (only_value entity attribute)
 
--- the number that is the attribute's value, if the entity has the attribute exactly once
+-- the number that is the attribute's value, if the entity has the attribute exactly once and its value is a number
 abbrev pub only_number : Entity → Attribute → Option ℕ
 only_number entity attribute = option_and_then number_of_value (only_value entity attribute)
 
--- the string that is the attribute's value, if the entity has the attribute exactly once
+-- the string that is the attribute's value, if the entity has the attribute exactly once and its value is a string
 abbrev pub only_text : Entity → Attribute → Option (List ℕ)
 only_text entity attribute = option_and_then text_in (only_value entity attribute)
 

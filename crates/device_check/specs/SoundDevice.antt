@@ -72,7 +72,8 @@ pub record FailsText (entity : Entity) (given : Option (List ℕ)) (attribute en
   pub needed : v1 entity given ≡ Ok found
   pub leaves : LeavesFirst entity found strings_in_order attribute entry
 
--- V1 fails, and `item` is the number of the first attribute that breaks it, or 15 if only the pin map breaks it
+-- V1 fails and `number` is 1, the number of V1. `item` is the number of the first attribute that breaks V1, or 15 if only the pin map
+-- breaks it.
 pub record FailsNeed (entity : Entity) (given : Option (List ℕ)) (number item : ℕ) : Type 0 where
   pub number_is : number ≡ rule_number Mandatory
   pub source : Source
