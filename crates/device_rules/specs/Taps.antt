@@ -68,7 +68,7 @@ wrong_tap ports taps =
     (breaks_tap is_inward ports (taps.scan_in ∷ taps.scan_out ∷ taps.mode ∷ []) taps.clock))
     (broken_by (attribute_number TapScanReset) (reset_breaks ports (four_taps taps) taps.reset)))))
 
--- the compliance patterns name port bits only, and each pattern has a symbol for each of these bits
+-- there are no compliance patterns, or they name port bits only, and each pattern has as many symbols as they name bits
 abbrev pub complies : List Port → Option Compliance → Bool
 complies ports None = true
 complies ports (Some compliance) =

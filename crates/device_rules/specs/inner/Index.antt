@@ -14,7 +14,7 @@ use Rattle.bsdl_strings.specs.declared.values.PortWord.{PortWord}
 use Rattle.bsdl_strings.specs.declared.values.PortWord.TheVariants.{Star, Plain, Index}
 use Rattle.device_rules.specs.Ports.{Bit, bit_total, v2}
 
--- the borrowed names, in order, are `names`
+-- `names` is the list of the borrowed names
 abbrev pub AreLent : List (Bor (List ℕ)) → List (List ℕ) → Type 0
 AreLent lent names = map (λ n. n.now) lent ≡ names
 
