@@ -42,7 +42,7 @@ same_value : {B : Type 0} (x y : B) → ◌≡◌ {A = Result B Source} (Ok x) (
 same_value x y e = cc e
 
 -- the found values are the values of the attributes of the instruction register and the boundary
--- register
+-- register, and the two lengths are in their ranges
 record AreRegisters (entity : Entity) (found : FoundRegisters) : Type 0 where
   length_is : within 2 most_instruction_bits (only_number entity InstructionLength) ≡ Some found.instruction_length
   opcodes_are : only_text entity InstructionOpcode ≡ Some found.opcodes
@@ -76,8 +76,8 @@ registers_are entity found e =
       boundary_is = f.value_is;
     })
 
--- the found values of the two registers are the values of the entity's attributes, and the found
--- package is the package that was chosen
+-- The found values of the two registers are the values of the entity's attributes, and the two
+-- lengths are in their ranges. The found package is the package that was chosen.
 pub record IsFound (entity : Entity) (given : Option (List ℕ)) (found : FoundValues) : Type 0 where
   pub length_is : within 2 most_instruction_bits (only_number entity InstructionLength) ≡ Some found.registers.instruction_length
   pub opcodes_are : only_text entity InstructionOpcode ≡ Some found.registers.opcodes

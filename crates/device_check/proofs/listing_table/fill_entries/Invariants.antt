@@ -5,7 +5,7 @@ use Rattle.device_check.specs.inner.ListingForms.{entries_in}
 use Rattle.device_check.specs.declared.listing_table.Entries.TheVariants.{Nothing}
 use Rattle.device_check.proofs.listing_table.fill_entries.Given as goal
 
--- place `k` of the table has the entries visited so far that belong to cell `from + k`
+-- the table keeps its length, and its place `k` has the entries visited so far that belong to cell `from + k`
 abbrev pub invariant-loop-cell : goal.invariant-loop-cell
 invariant-loop-cell l = record {
   places : length l.table ≡ length l.fn.table;
