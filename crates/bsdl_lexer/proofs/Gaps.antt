@@ -10,7 +10,7 @@ use Rattle.bsdl_lexer.specs.inner.Lengths.{gap_len}
 abbrev pub stays : ℕ → Bool
 stays byte = not (byte == line_feed)
 
--- the bytes are the rest of a comment, followed by a gap
+-- the bytes are the rest of a comment, followed by a gap, or the rest of a comment that ends with the text
 record CommentRest (more rest : List ℕ) : Type 0 where
   words : List ℕ
   tail : List ℕ

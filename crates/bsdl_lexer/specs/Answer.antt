@@ -31,7 +31,7 @@ pub record BeginsOpenText (rest : List ℕ) : Type 0 where
   pub allowed : IsTrue (list_all is_text_byte inner)
   pub is_open : EndsOpen more
 
--- there is a first byte, and it begins no blank, comment, token or open string
+-- there is a first byte, it is not a quote, and it begins no blank, comment or token
 pub record BeginsNothing (rest : List ℕ) : Type 0 where
   pub first : ℕ
   pub others : List ℕ
