@@ -3,7 +3,7 @@ use Rattle.board_lines.specs.ChainParts.{described_names}
 use Rattle.board_lines.proofs.parts.described_names.Given as goal
 
 -- the names so far, followed by the names of the described parts among the remaining parts, are all
--- names
+-- names; there are at most as many names so far as parts
 abbrev pub invariant-loop-part : goal.invariant-loop-part
 invariant-loop-part l = record {
   names : described_names l.parts ≡ map (λ n. n.now) l.names.items ++ described_names (drop l.part-index l.parts);
