@@ -16,7 +16,7 @@ use indexmap::IndexMap;
 use std::alloc::{AllocError, Global};
 
 /// Returns, for each name of the list, the index of its first occurrence in `others`, or None if
-/// there is none.
+/// there is none. `others` must have fewer than 2^32 names.
 fn places_of(
     alloc: Global,
     named: &[(u32, &[u8])],
@@ -39,7 +39,7 @@ fn found(places: &[Option<u32>]) -> Option<usize>
 }
 
 /// Returns the fault of the first INERT line whose part is in the chain, or None if there is no
-/// such line.
+/// such line. There must be fewer than 2^32 parts.
 #[tactic(auto, unfolding(crate::specs::LineRules::inert_in_chain))]
 pub fn inert_in_chain(
     alloc: Global,
@@ -59,7 +59,7 @@ pub fn inert_in_chain(
 }
 
 /// Returns the fault of the first SUPPLY line whose net does not exist, or None if there is no such
-/// line.
+/// line. There must be fewer than 2^32 nets.
 #[tactic(auto, unfolding(crate::specs::LineRules::no_supply_net))]
 pub fn no_supply_net(
     alloc: Global,
@@ -79,7 +79,7 @@ pub fn no_supply_net(
 }
 
 /// Returns the fault of the first PULL line whose net does not exist, or None if there is no such
-/// line.
+/// line. There must be fewer than 2^32 nets.
 #[tactic(auto, unfolding(crate::specs::LineRules::no_pull_net))]
 pub fn no_pull_net(
     alloc: Global,
@@ -99,7 +99,7 @@ pub fn no_pull_net(
 }
 
 /// Returns the fault of the first PULL line whose net an earlier PULL line names, or None if there
-/// is no such line.
+/// is no such line. There must be fewer than 2^32 PULL lines.
 #[tactic(auto, unfolding(crate::specs::LineRules::pull_twice))]
 pub fn pull_twice(alloc: Global, pulls: &[(u32, &[u8])]) -> Result<Option<BoardFault>, AllocError>
     requires { length pulls.now < 2 ^ 32 }

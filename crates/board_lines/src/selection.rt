@@ -63,7 +63,8 @@ fn numbers_among(
 }
 
 /// Returns the index of each DEVICE line's entity, or the first fault. `places` has this index for
-/// each of `devices`, or None if the entity is not in `entities`.
+/// each of `devices`, or None if the entity is not in `entities`. There must be fewer than 2^32
+/// parts and fewer than 2^32 entities.
 #[tactic(auto, unfolding(crate::specs::Selection::answer))]
 fn answer(
     alloc: Global,
@@ -86,7 +87,7 @@ fn answer(
 }
 
 /// Returns the index in `entities` of each DEVICE line's entity, or None if the entity is not
-/// there.
+/// there. There must be fewer than 2^32 entities.
 fn entity_places(
     alloc: Global,
     devices: &[(u32, &[u8])],
