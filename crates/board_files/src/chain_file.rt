@@ -107,7 +107,8 @@ pub fn chain(alloc: Global, bytes: &[u8]) -> Result<ChainFile, LineFault>
     Ok(ChainFile::of(lines))
 }
 
-// Returns the lines of a chain file, or the fault of its first faulty line.
+// Returns the lines of a chain file, or the fault of its first faulty line. There must be fewer than
+// 2^32 bytes.
 fn read_lines(alloc: Global, bytes: &[u8]) -> Result<Vec<ChainLine>, LineFault>
     requires { length bytes.now < 2 ^ 32 }
     ensures read { ReadsLines (λ lines. lines.items) result (chain_lines bytes.now) }

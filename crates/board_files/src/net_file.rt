@@ -91,7 +91,8 @@ pub fn nets(alloc: Global, bytes: &[u8]) -> Result<NetFile, LineFault>
     Ok(NetFile::of(lines))
 }
 
-// Returns the lines of a net file, or the fault of its first faulty line.
+// Returns the lines of a net file, or the fault of its first faulty line. There must be fewer than
+// 2^32 bytes.
 fn read_lines(alloc: Global, bytes: &[u8]) -> Result<Vec<NetLine>, LineFault>
     requires { length bytes.now < 2 ^ 32 }
     ensures { ReadsLines (λ lines. lines.items) result (net_lines bytes.now) }
