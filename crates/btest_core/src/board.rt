@@ -25,7 +25,8 @@ use series_parts::law::unlinked_files;
 use series_parts::{Joined, LinkFault, join};
 use std::alloc::Global;
 
-// Returns the net file that a text contains, or the fault of its first faulty line.
+// Returns the net file that a text contains, or the fault of its first faulty line. The text must
+// have fewer than 2^32 bytes.
 fn net_file(alloc: Global, text: &[u8]) -> Result<NetFile, InputFault>
     requires { length text.now < 2 ^ 32 }
     ensures { Gives input_told (λ file. file) (Is (in_file Nets (net_lines text.now))) result }
@@ -65,7 +66,8 @@ fn joined_files(alloc: Global, chain: &ChainFile, nets: NetFile) -> Result<Joine
     }
 }
 
-// Returns the board of joined files, or the first fault of the board rules.
+// Returns the board of joined files, or the first fault of the board rules. The chain must have 1 to
+// 255 parts with different names, and there must be a device for each DEVICE line.
 fn board_of(
     alloc: Global,
     chain: &ChainFile,
@@ -85,7 +87,8 @@ fn board_of(
 }
 
 // Returns the board of the devices and of files without LINK lines, or the first fault. Such files
-// need no joining, so they are not copied.
+// need no joining, so they are not copied. The chain must have 1 to 255 parts with different names,
+// and there must be a device for each DEVICE line.
 fn unlinked_board(
     alloc: Global,
     chain: &ChainFile,
@@ -103,6 +106,8 @@ fn unlinked_board(
 }
 
 // Joins the files, and returns the board of the joined files and the devices, or the first fault.
+// The chain must have 1 to 255 parts with different names, and there must be a device for each
+// DEVICE line.
 fn joined_board(
     alloc: Global,
     chain: &ChainFile,
@@ -123,7 +128,8 @@ fn joined_board(
     }
 }
 
-// Returns the board of the files and the BSDL texts, or the first fault.
+// Returns the board of the files and the BSDL texts, or the first fault. Each text must have fewer
+// than 2^32 bytes, and there must be fewer than 2^32 texts.
 fn files_board(
     alloc: Global,
     chain: &ChainFile,

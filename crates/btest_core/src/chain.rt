@@ -43,7 +43,8 @@ fn instruction_lengths(alloc: Global, parts: &[Part]) -> Result<Vec<u32>, AllocE
     Ok(lengths)
 }
 
-// Returns the instruction lengths of the parts of a chain.
+// Returns the instruction lengths of the parts of a chain. The chain must have 1 to 255 parts with
+// different names, and there must be a device for each DEVICE line.
 fn lengths_of(alloc: Global, file: &ChainFile, devices: Vec<Device>) -> Result<Vec<u32>, AllocError>
     requires chain { IsChain file.now }
     requires devices { vec_len devices ≡ length (named EntityName file.now) }
@@ -58,7 +59,8 @@ fn lengths_of(alloc: Global, file: &ChainFile, devices: Vec<Device>) -> Result<V
 }
 
 // Returns the instruction lengths of the parts in a chain file, or the first fault of the BSDL
-// texts, the chain and its devices.
+// texts, the chain and its devices. Each text must have fewer than 2^32 bytes, and there must be
+// fewer than 2^32 texts.
 fn file_lengths(alloc: Global, file: &ChainFile, bsdl: &[Vec<u8>]) -> Result<Vec<u32>, InputFault>
     requires each { All (λ text. length text.items < 2 ^ 32) bsdl.now }
     requires count { length bsdl.now < 2 ^ 32 }

@@ -35,7 +35,8 @@ pub fn read_device(alloc: Global, bytes: &[u8]) -> Result<Device, InputFault>
 }
 
 // Returns the device of the entity in this package, or the fault of the first rule or string that
-// fails.
+// fails. `text` is the number of the entity's text, which the fault reports. The entity's lists,
+// names and texts must be shorter than 2^32.
 fn device_in(
     alloc: Global,
     entity: &Entity,
@@ -54,7 +55,8 @@ fn device_in(
 }
 
 // Returns the device of entity number `text` in this package, or the fault of the first rule or
-// string that fails.
+// string that fails. There must be an entity with this number. The lists, names and texts of each
+// entity must be shorter than 2^32.
 fn device_of(
     alloc: Global,
     entities: &[Entity],
@@ -97,8 +99,9 @@ fn earlier(chosen: &[(u32, Option<&[u8]>)], i: usize) -> Option<usize>
     None
 }
 
-// Returns the device of choice `i`. `devices` has the devices of the earlier choices. If an earlier
-// choice equals choice `i`, copies its device.
+// Returns the device of choice `i`, or the first fault. If an earlier choice equals choice `i`,
+// copies its device. `devices` must have the devices of the earlier choices, and each choice must
+// name an entity. The lists, names and texts of each entity must be shorter than 2^32.
 fn next_device(
     alloc: Global,
     entities: &[Entity],
@@ -120,7 +123,8 @@ fn next_device(
     }
 }
 
-// Returns the device of each choice, in the order of the choices, or the first fault.
+// Returns the device of each choice, in the order of the choices, or the first fault. Each choice
+// must name an entity. The lists, names and texts of each entity must be shorter than 2^32.
 fn chosen_devices(
     alloc: Global,
     entities: &[Entity],
@@ -203,7 +207,7 @@ fn zipped<'a>(
 }
 
 // Returns the number of the text that each DEVICE line selects, in the order of the lines, or the
-// first fault of the chain.
+// first fault of the chain. There must be fewer than 2^32 entities.
 fn numbers(alloc: Global, file: &ChainFile, entities: &[Entity]) -> Result<Vec<u32>, InputFault>
     requires { length entities.now < 2 ^ 32 }
     ensures numbers { Gives input_told (λ numbers. numbers.items)
@@ -221,7 +225,8 @@ fn numbers(alloc: Global, file: &ChainFile, entities: &[Entity]) -> Result<Vec<u
 }
 
 // Returns the devices of the DEVICE lines, in the order of the lines, or the first fault. `numbers`
-// has the number of the text for each of these lines.
+// has the number of the text for each of these lines, and there must be an entity with each of these
+// numbers. The lists, names and texts of each entity must be shorter than 2^32.
 fn devices_by(
     alloc: Global,
     lines: &[ChainLine],
@@ -240,7 +245,8 @@ fn devices_by(
 }
 
 // Returns the devices that the DEVICE lines select among the entities, in the order of the lines, or
-// the first fault.
+// the first fault. There must be fewer than 2^32 entities. The lists, names and texts of each entity
+// must be shorter than 2^32.
 fn selected_devices(
     alloc: Global,
     file: &ChainFile,

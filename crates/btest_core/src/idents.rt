@@ -61,7 +61,8 @@ fn first_bypass(lines: &[ChainLine]) -> Option<u32>
 }
 
 // Returns the patterns of the devices, or the fault `NoIdent` with the number of the first BYPASS
-// line if there is one.
+// line if there is one. The chain must have 1 to 255 parts with different names, and there must be a
+// device for each DEVICE line.
 fn idents_unless_bypass(
     alloc: Global,
     file: &ChainFile,
@@ -82,7 +83,8 @@ fn idents_unless_bypass(
     }
 }
 
-// Returns the patterns of the devices in a chain file, or the first fault.
+// Returns the patterns of the devices in a chain file, or the first fault. Each text must have fewer
+// than 2^32 bytes, and there must be fewer than 2^32 texts.
 fn file_idents(
     alloc: Global,
     file: &ChainFile,

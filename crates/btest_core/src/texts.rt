@@ -27,7 +27,8 @@ pub fn read_entity(alloc: Global, bytes: &[u8], text: u32) -> Result<Entity, Inp
     }
 }
 
-// Returns the tokens of a BSDL text, or the fault of the point at which the lexer stops.
+// Returns the tokens of a BSDL text, or the fault of the point at which the lexer stops. The text
+// must have fewer than 2^32 bytes.
 fn tokens_of(alloc: Global, bytes: &[u8], text: u32) -> Result<Vec<Token>, InputFault>
     requires { length bytes.now < 2 ^ 32 }
     ensures tokens { IfOk result (λ tokens. AreTokens bytes.now tokens.items) }
