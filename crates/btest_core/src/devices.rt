@@ -100,8 +100,9 @@ fn earlier(chosen: &[(u32, Option<&[u8]>)], i: usize) -> Option<usize>
 }
 
 // Returns the device of choice `i`, or the first fault. If an earlier choice equals choice `i`,
-// copies its device. `devices` must have the devices of the earlier choices, and each choice must
-// name an entity. The lists, names and texts of each entity must be shorter than 2^32.
+// copies its device. `i` must be the index of a choice, `devices` must have the devices of the
+// earlier choices, and each choice must name an entity. The lists, names and texts of each entity
+// must be shorter than 2^32.
 fn next_device(
     alloc: Global,
     entities: &[Entity],

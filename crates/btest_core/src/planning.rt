@@ -14,8 +14,9 @@ use scan_planner::Plan;
 use scan_planner::law::useful_planned;
 use std::alloc::{AllocError, Global};
 
-/// Returns the plan of the board's test. `classes` must be the classes of the board. A caller that
-/// has the pins of the board's nets calls `plan_by` instead.
+/// Returns the plan of the board's test. `classes` must be the classes of the board, which say what
+/// its nets, pins and controls can do in safe settings. A caller that has the pins of the board's
+/// nets calls `plan_by` instead.
 pub fn plan(alloc: Global, board: &Board, classes: &Classes) -> Result<Plan, AllocError>
     requires { AreClasses board.now classes.now }
     ensures plan { IfOk result (λ plan. IsPlanOf board.now plan) }
@@ -25,7 +26,8 @@ pub fn plan(alloc: Global, board: &Board, classes: &Classes) -> Result<Plan, All
     plan_by(alloc, board, pins, classes)
 }
 
-/// Like `plan`, but takes ownership of `pins`, which must be the pins of the board's nets.
+/// Like `plan`, but takes ownership of `pins`, which must be the pins of the board's nets. `classes`
+/// must be the classes of the board.
 pub fn plan_by(
     alloc: Global,
     board: &Board,
