@@ -161,7 +161,7 @@ module _ (chain : List ChainLine) (parts : List Part) (names : List (List ℕ)) 
       (guarded_same (drivers_of board marks words))
       ∙ ap (λ (b : Option BoardFault). guarded_driver board (drivers_of board marks words) then b) (two_same (drivers_of board marks words))
 
--- `then` is associative: the code groups the rules in one way and the definition in another
+-- `then` is associative: the Rust functions group the rules in one way and the definition in another
 order : {F : Type 0} (d n l u t c r : Option F)
     → ((d then (n then l)) then ((u then t) then (c then r)))
     ≡ ((d then (n then ((l then (u then t)) then c))) then r)

@@ -1,4 +1,4 @@
-//! A cursor that reads the tokens of a text in order.
+//! A cursor that reads the tokens of a text from the first to the last. A mark is a token of punctuation.
 ghost use Rattle.std.specs.Prelude.{◌≡◌, map, length};
 ghost use Rattle.std.specs.Char.{to_ascii_uppercase};
 ghost use Rattle.grammars.specs.Grammar.{reader_of_grammar};

@@ -14,7 +14,7 @@ IsAnswerOfSteps {A} first next answer =
 abbrev pub Is : {A : Type 0} → Result A InputFault → Result A InputFault → Type 0
 Is this answer = answer ≡ this
 
--- the answer for a list of items: the values of the items in order, or the fault of the first item
+-- the answer for a list of items: the list of their values, or the fault of the first item
 -- that has a fault
 abbrev pub EachOf : {A B : Type 0} → (A → Result B InputFault → Type 0) → List A → Result (List B) InputFault → Type 0
 EachOf IsOf [] answer = Is (Ok []) answer

@@ -404,7 +404,7 @@ fn put_cell<K: Sink>(
     end_line(line, out)
 }
 
-/// Writes the lines of these entries, in order. There are at most two.
+/// Writes a line for each of these entries, which are at most two, in their order.
 fn put_entries<K: Sink>(
     ports: &[Name],
     bits: &[PortBit],

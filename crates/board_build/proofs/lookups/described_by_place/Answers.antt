@@ -1,4 +1,4 @@
--- The names in the list are the names of the described parts, in order.
+-- The names in the list are the names of the described parts, in the order of the parts.
 use Rattle.std.proofs.Common.{map, ap, ◌∙◌}
 use Rattle.std.proofs.lemmas.Result.{IfOk-weaker}
 use Rattle.first_places.specs.Places.{first_place}

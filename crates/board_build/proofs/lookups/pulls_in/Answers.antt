@@ -1,4 +1,4 @@
--- The list has the nets and values of the PULL lines, in order.
+-- The list has the nets and values of the PULL lines, in the order of the lines.
 use Rattle.std.proofs.Common.{map, ap, ◌∙◌}
 use Rattle.std.proofs.lemmas.Result.{IfOk-weaker}
 use Rattle.board_lines.specs.LineRules.{pull_of_net}

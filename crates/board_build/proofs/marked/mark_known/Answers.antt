@@ -1,4 +1,4 @@
--- The look-ups of the code and the definitions agree about each word.
+-- The maps and the definitions give the same facts about each word.
 use Rattle.std.proofs.Common.{map, ap, sym, ◌∙◌}
 use Rattle.std.specs.Prelude.{is_some}
 use Rattle.std.proofs.lemmas.Result.{IfOk-weaker}

@@ -1,4 +1,4 @@
--- The look-ups of the code and the definitions agree about each name.
+-- The maps and the definitions give the same facts about each name.
 use Rattle.std.proofs.Common.{map, ap, ◌∙◌}
 use Rattle.std.specs.Prelude.{is_some}
 use Rattle.std.proofs.lemmas.Result.{IfOk-weaker}

@@ -1,4 +1,4 @@
--- The code and the definition find the same first repeated pin.
+-- The function and the definition find the same first repeated pin.
 use Rattle.std.proofs.Common.{◌∙◌, ap}
 use Rattle.std.specs.Prelude.{option_map}
 use Rattle.std.proofs.lemmas.Result.{IfOk-weaker}

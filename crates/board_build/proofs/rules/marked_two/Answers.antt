@@ -1,4 +1,4 @@
--- The code and the definition find the same first always-on driver on a net that already has one.
+-- The function and the definition find the same first always-on driver on a net that already has one.
 use Rattle.std.proofs.Common.{◌∙◌, ◌==◌, ap}
 use Rattle.std.specs.Prelude.{option_map}
 use Rattle.std.proofs.lemmas.Result.{IfOk-weaker}

@@ -1,4 +1,4 @@
--- The code looks up each name in a map of the first places of the other names.
+-- The function looks up each name in a map of the first places of the other names.
 use Rattle.std.proofs.Common.{◌∙◌, map}
 use Rattle.std.proofs.lemmas.Result.{IfOk-weaker}
 use Rattle.first_places.specs.Places.{first_place}
