@@ -1,4 +1,5 @@
--- If a draft, which is a device as its BSDL text states it, breaks no rule, its record keeps the rules of devices.
+-- A draft is a device as its BSDL text states it. If the draft breaks no rule and its registers have lengths in their ranges, its record
+-- keeps the rules of devices.
 use Rattle.std.proofs.Common.{◌≡◌, ◌≤◌, map, length, None, sym, subst, arith}
 use Rattle.std.proofs.lemmas.List.{length-map}
 use Rattle.board_defs.specs.Limits.{most_bits}

@@ -1,4 +1,4 @@
--- A text that breaks no rule describes a device.
+-- A text that breaks no rule, and whose registers have lengths in their ranges, describes a device.
 use Rattle.device_rules.proofs.IsDevice.{device_of}
 use Rattle.device_rules.proofs.raw.raw_device.Goals as goal
 
