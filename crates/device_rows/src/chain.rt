@@ -1,6 +1,8 @@
 // Rows for the command `chain`: chains, faulty chain files, command lines that are not valid, and failed reads and writes.
-use run_bench::Text::{Bytes, Numbered, Plain, Repeated};
-use run_bench::{DRV, Ending, Line, Named, Row, RowFault, Rows, Run, Table, Trouble, tables_hold};
+use run_bench::Text::{Bytes, Edited, Numbered, Plain, Repeated};
+use run_bench::{
+    DRV, Ending, Line, Named, Row, RowFault, Rows, Run, Table, Text, Trouble, tables_hold,
+};
 
 const TWO_PARTS: &str = "BYPASS U1 4\nBYPASS U2 2";
 
@@ -69,6 +71,37 @@ const CHAINS: [Row; 7] = [
         ),
     },
 ];
+
+// Names that a file may have, and a BSDL text that no part names.
+const FREE_NAMES: [Row; 4] = [
+    Row {
+        texts: &[("c-", Plain(TWO_PARTS))],
+        line: "chain c-",
+        ending: Ending::Scans(TWO_PARTS_SCANS),
+    },
+    Row {
+        texts: &[("\u{e9}", Plain(TWO_PARTS))],
+        line: "chain \u{e9}",
+        ending: Ending::Scans(TWO_PARTS_SCANS),
+    },
+    // Only the text of a DEVICE line must keep the rules of a device.
+    Row {
+        texts: &[("c", Plain(TWO_PARTS)), ("bad", NO_CODES)],
+        line: "chain c bad",
+        ending: Ending::Scans(TWO_PARTS_SCANS),
+    },
+    Row {
+        texts: &[
+            ("c", Plain("BYPASS U2 2\nDEVICE U1 DRV -")),
+            ("bad", NO_CODES),
+        ],
+        line: "chain c bad",
+        ending: Ending::Refused("bad: rule V1 item 7\n"),
+    },
+];
+
+// The text of the driver without its opcodes, which rule V1 requires.
+const NO_CODES: Text = Edited(DRV, &[("INSTRUCTION_OPCODE", "INSTRUCTION_CODES")]);
 
 const FORTY_PARTS: [Run; 1] = [(
     Numbered {
@@ -356,6 +389,17 @@ static TABLES: [Table; 4] = [
 #[test]
 fn chains_end_as_they_should(rt: HostRuntime) -> Result<(), RowFault> {
     tables_hold(&rt, rt.alloc(), &TABLES)
+}
+
+static NAME_TABLES: [Table; 1] = [Table {
+    name: "names of files are free, and so are texts that no part names",
+    texts: &[],
+    rows: Rows::Runs(&FREE_NAMES),
+}];
+
+#[test]
+fn names_and_texts_may_be_free(rt: HostRuntime) -> Result<(), RowFault> {
+    tables_hold(&rt, rt.alloc(), &NAME_TABLES)
 }
 
 static TEXT_TABLES: [Table; 5] = [

@@ -134,6 +134,63 @@ const OTHER_CODES: [Run; 7] = [
 
 const SAME_LISTING: Ending<'static> = Ending::Puts(DRV_LISTING);
 
+// Texts with other blanks, line ends, comments and strings.
+const OTHER_BYTES: [Run; 6] = [
+    // Lines that end with CR LF, and a vertical tab and a form feed, which are blanks between tokens.
+    (Edited(DRV, &[("\n", "\r\n")]), SAME_LISTING),
+    (Edited(DRV, &[("use STD", "\x0buse\x0cSTD")]), SAME_LISTING),
+    // A comment may contain any bytes, and the last line needs no line end.
+    (
+        Edited(DRV, &[("end DRV;\n", "end DRV; -- \x00\u{e9} end")]),
+        SAME_LISTING,
+    ),
+    // The default package may be a joined string, in any case of letters.
+    (
+        Edited(DRV, &[(":= \"P\"", ":= \"\" & \"p\"")]),
+        SAME_LISTING,
+    ),
+    // Any of the `use` items may name the edition of 2001, in any case of letters.
+    (
+        Edited(
+            DRV1,
+            &[
+                (
+                    "use STD_1149_1_2001.all;",
+                    "use Cells_1.all;\nuse std_1149_1_2001.ALL;",
+                ),
+                (
+                    "attribute COMPONENT_CONFORMANCE of DRV1 : entity is \"STD_1149_1_2001\";\n",
+                    "",
+                ),
+            ],
+        ),
+        DRV1_LISTING,
+    ),
+    // Compliance bits may be of any mode.
+    (
+        Edited(
+            DRV,
+            &[
+                (
+                    "(1 to 2));",
+                    "(1 to 2); L : linkage bit; I : inout bit; B : buffer bit);",
+                ),
+                (
+                    "end DRV;",
+                    "attribute COMPLIANCE_PATTERNS of DRV : entity is \"(L, I, B, TDO) (0101)\";\nend DRV;",
+                ),
+            ],
+        ),
+        Ending::PutsAll(Edited(
+            DRV_LISTING,
+            &[(
+                "PORT Q OUT 1 2\n",
+                "PORT Q OUT 1 2\nPORT L LINKAGE -\nPORT I INOUT -\nPORT B BUFFER -\n",
+            )],
+        )),
+    ),
+];
+
 const RCV1_LISTING: &str =
     "ENTITY RCV1\nPACKAGE P\nIR 2 SAMPLE 10 IDCODE -\nPORT TDI IN T1\nPORT TMS IN T3\nPORT TCK IN T4\n\
                             PORT TDO OUT T2\nPORT D IN 1\nCELL 0 INPUT D X\n";
@@ -271,6 +328,17 @@ static CODE_TABLES: [Table; 1] = [Table {
 #[test]
 fn other_codes_and_names_are_not_listed(rt: HostRuntime) -> Result<(), RowFault> {
     tables_hold(&rt, rt.alloc(), &CODE_TABLES)
+}
+
+static BYTE_TABLES: [Table; 1] = [Table {
+    name: "blanks, comments and pieces of strings don't change a listing",
+    texts: &[],
+    rows: Rows::Texts("device drv", "drv", &OTHER_BYTES),
+}];
+
+#[test]
+fn blanks_comments_and_pieces_are_not_listed(rt: HostRuntime) -> Result<(), RowFault> {
+    tables_hold(&rt, rt.alloc(), &BYTE_TABLES)
 }
 
 static DEVICE_TABLES: [Table; 1] = [Table {
