@@ -9,7 +9,7 @@ use std::alloc::{AllocError, Global};
 // A text, and the message for its first faulty line. The message is empty if there is no such line.
 type Answer = (&'static [u8], &'static str);
 
-static CHAIN_FILES: [Answer; 22] = [
+static CHAIN_FILES: [Answer; 39] = [
     (b"", ""),
     (b"# DEVICE\nINERT R1\nSUPPLY V.CC\nLINK R1 1 a_2", ""),
     (b"DEVICE U1 drv -\r\n\tBYPASS U2 3 # short\n\nPULL N 1", ""),
@@ -35,9 +35,39 @@ static CHAIN_FILES: [Answer; 22] = [
     // In these files, a vertical tab and a form feed are not blanks.
     (b"SUPPLY\x0bV", "line 1: no statement"),
     (b"SUPPLY V\x0c", "line 1: word not allowed"),
+    // A carriage return is a blank, and does not end a line.
+    (b"BYPASS U1 2\rBYPASS U2 2", "line 1: no statement"),
+    (b"BYPASS\rU1\r2\r", ""),
+    // UTF-16, with either order of bytes.
+    (b"\xff\xfeI\0N\0E\0R\0T\0 \0R\0", "line 1: no statement"),
+    (b"\xfe\xff\0I\0N\0E\0R\0T\0 \0R", "line 1: no statement"),
+    // Lengths at the limits, and the bytes beside the digits.
+    (b"BYPASS U1 2\nBYPASS U2 255\nBYPASS U3 002", ""),
+    (b"BYPASS U1 001", "line 1: number not allowed"),
+    (b"BYPASS U1 256", "line 1: number not allowed"),
+    (b"BYPASS U1 2/", "line 1: number not allowed"),
+    (b"BYPASS U1 2:", "line 1: number not allowed"),
+    // The pins of a LINK line have letters, digits and `_`. The other rows have bytes beside these.
+    (b"LINK R1 AZaz_ 09", ""),
+    (b"LINK R1 @ 1", "line 1: word not allowed"),
+    (b"LINK R1 [ 1", "line 1: word not allowed"),
+    (b"LINK R1 1 `", "line 1: word not allowed"),
+    (b"LINK R1 1 {", "line 1: word not allowed"),
+    (b"LINK R1 1 :", "line 1: word not allowed"),
+    // A line of 66 words, and a line whose comment has 65 words.
+    (
+        b"INERT A A A A A A A A A A A A A A A A A A A A A A A A A A A A A A A A A \
+          A A A A A A A A A A A A A A A A A A A A A A A A A A A A A A A A",
+        "line 1: no statement",
+    ),
+    (
+        b"INERT R1 # A A A A A A A A A A A A A A A A A A A A A A A A A A A A A A A A A \
+          A A A A A A A A A A A A A A A A A A A A A A A A A A A A A A A A",
+        "",
+    ),
 ];
 
-static NET_FILES: [Answer; 16] = [
+static NET_FILES: [Answer; 20] = [
     (b"", ""),
     (b"NET N1 U1.1 U2.1\nNET N2", ""),
     (b"NET N.1 U1.1.2 # and more\n", ""),
@@ -52,6 +82,12 @@ static NET_FILES: [Answer; 16] = [
     (b"NET N1 U1..1 U1.1.", ""),
     (b"NETS N1 U1.", "line 1: no statement"),
     (b"NET N1 U1.1\x0bU2.1", "line 1: word not allowed"),
+    (b"NET N1 U1.1\x0c", "line 1: word not allowed"),
+    // A carriage return is a blank, and does not end a line.
+    (b"NET N1 U1.1\r\nNET N2\r\n", ""),
+    (b"NET N1 U1.1\rNET N2", "line 1: word not allowed"),
+    // UTF-16.
+    (b"\xff\xfeN\0E\0T\0 \0N\0", "line 1: no statement"),
     // A line of 66 words is allowed.
     (
         b"NET N A.1 A.2 A.3 A.4 A.5 A.6 A.7 A.8 A.9 A.10 A.11 A.12 A.13 A.14 A.15 A.16 A.17 A.18 A.19 A.20 A.21 A.22 A.23 A.24 A.25 A.26 A.27 A.28 A.29 A.30 A.31 A.32 A.33 A.34 A.35 A.36 A.37 A.38 A.39 A.40 A.41 A.42 A.43 A.44 A.45 A.46 A.47 A.48 A.49 A.50 A.51 A.52 A.53 A.54 A.55 A.56 A.57 A.58 A.59 A.60 A.61 A.62 A.63 A.64",

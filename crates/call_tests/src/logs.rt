@@ -28,7 +28,7 @@ fn bits_of(alloc: Global, log: &Log) -> Result<String, AllocError> {
 // log, or the message of the text's first fault.
 type LogText = (&'static [u8], u64, u32, &'static str);
 
-static LOGS: [LogText; 20] = [
+static LOGS: [LogText; 32] = [
     (b"", 0, 10, ""),
     (b"# 3FF\n\r\n\t ", 0, 10, ""),
     (b"3FF\n2A5", 2, 10, "1111111111 1010010101 "),
@@ -54,6 +54,32 @@ static LOGS: [LogText; 20] = [
     (b"3FF\n#\n3FF\n3FF", 1, 10, "line 3: row too many"),
     (b"3FF\nzz zz", 1, 10, "line 2: row too many"),
     (b"3FF\n4FF\n3FF", 1, 10, "line 2: row too many"),
+    // All digits, in either case of letters, and the bytes beside them.
+    (
+        b"0123456789abcdefABCDEF",
+        1,
+        88,
+        "1111011110110011110101011111011110110011110101011001000111100110101000101100010010000000 ",
+    ),
+    (b"0/0", 1, 10, "line 1: digit not allowed"),
+    (b"0:0", 1, 10, "line 1: digit not allowed"),
+    (b"0@0", 1, 10, "line 1: digit not allowed"),
+    (b"0`0", 1, 10, "line 1: digit not allowed"),
+    (b"0g0", 1, 10, "line 1: digit not allowed"),
+    // A carriage return is a blank, and does not end a line. A vertical tab and a form feed are not blanks.
+    (b"\r3FF\r", 1, 10, "1111111111 "),
+    (b"3FF\r3FF", 2, 10, "line 1: wrong length"),
+    (b"3FF\x0b", 1, 10, "line 1: wrong length"),
+    (b"3F\x0c", 1, 10, "line 1: digit not allowed"),
+    // UTF-16, and a line of 66 words.
+    (b"\xff\xfe3\0F\0F\0", 1, 10, "line 1: wrong length"),
+    (
+        b"3FF 0 0 0 0 0 0 0 0 0 0 0 0 0 0 0 0 0 0 0 0 0 0 0 0 0 0 0 0 0 0 0 0 0 \
+          0 0 0 0 0 0 0 0 0 0 0 0 0 0 0 0 0 0 0 0 0 0 0 0 0 0 0 0 0 0 0 0",
+        1,
+        10,
+        "line 1: wrong length",
+    ),
 ];
 
 // Returns the bits of the log in a text, or the message of the text's first fault. The text must be shorter than 2^32 bytes.
@@ -134,7 +160,7 @@ fn answers<R: Threads + Sync>(
 // The text of a batch, the number of rows that each log must have, and the blocks or the first fault of the batch, as text.
 type BatchText = (&'static [u8], u64, &'static str);
 
-static BATCHES: [BatchText; 29] = [
+static BATCHES: [BatchText; 34] = [
     (b"", 2, ""),
     (b"# no board\n\n\t\r\n", 2, ""),
     (b"BOARD A\n1\n2\nBOARD B\n0\n2", 2, "A:10 01 B:00 01 "),
@@ -193,6 +219,18 @@ static BATCHES: [BatchText; 29] = [
         "line 3: board not allowed",
     ),
     (b"BOARDS A", 2, "line 1: no board yet"),
+    // A vertical tab and a form feed are not blanks. A carriage return is a blank, and does not end a line.
+    (b"BOARD\x0bA\n1\n2", 2, "line 1: no board yet"),
+    (b"BOARD A\x0c\n1\n2", 2, "line 1: board not allowed"),
+    (b"BOARD A\r1\n2", 1, "line 1: board not allowed"),
+    // UTF-16, and a title of 66 words.
+    (b"\xff\xfeB\0O\0A\0R\0D\0 \0A\0", 0, "line 1: no board yet"),
+    (
+        b"BOARD A A A A A A A A A A A A A A A A A A A A A A A A A A A A A A A A A \
+          A A A A A A A A A A A A A A A A A A A A A A A A A A A A A A A A",
+        0,
+        "line 1: board not allowed",
+    ),
 ];
 
 #[test]
