@@ -52,7 +52,7 @@ fn blanks_and_marks(rt: HostRuntime) -> Result<(), CaseFault> {
     lexings_hold(rt.alloc(), &LETTERS)
 }
 
-static BAD_PLACES: [(Source, Result<(), LexFault>, usize); 8] = [
+static BAD_PLACES: [(Source, Result<(), LexFault>, usize); 9] = [
     (Bytes(b""), Ok(()), 0),
     (Bytes(b" \t\r\n-- \x07\n--"), Ok(()), 0),
     (Bytes(b"a\nb\nc\n\x07d"), Err(Byte(4)), 3),
@@ -61,6 +61,8 @@ static BAD_PLACES: [(Source, Result<(), LexFault>, usize); 8] = [
     (Bytes(b"a\n\"b"), Err(OpenString(2)), 1),
     (Bytes(b"a\n\"b\n\""), Err(OpenString(2)), 1),
     (Bytes(b"\"b\r\""), Err(OpenString(1)), 0),
+    // A carriage return does not end a line.
+    (Bytes(b"a\r\x07"), Err(Byte(1)), 1),
 ];
 
 #[test]
@@ -107,4 +109,35 @@ static MOST: [(Source, Result<(), LexFault>, usize); 3] = [
 #[test]
 fn the_most_tokens(rt: HostRuntime) -> Result<(), CaseFault> {
     lexings_hold(rt.alloc(), &MOST)
+}
+
+static BEHIND: [(Source, Result<(), LexFault>, usize); 2] = [
+    (
+        Filled {
+            lines: 0,
+            head: "",
+            byte: b',',
+            count: TOKEN_LIMIT,
+            tail: "\n\"",
+        },
+        Err(OpenString(2)),
+        TOKEN_LIMIT,
+    ),
+    // Blanks and a comment after the last token that the limit allows.
+    (
+        Filled {
+            lines: 0,
+            head: "",
+            byte: b',',
+            count: TOKEN_LIMIT,
+            tail: " \n-- more",
+        },
+        Ok(()),
+        TOKEN_LIMIT,
+    ),
+];
+
+#[test]
+fn a_text_after_the_most_tokens(rt: HostRuntime) -> Result<(), CaseFault> {
+    lexings_hold(rt.alloc(), &BEHIND)
 }

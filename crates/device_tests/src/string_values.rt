@@ -2,7 +2,7 @@
 use board_defs::Symbol;
 use device_bench::{CaseFault, Grammar, strings_hold, symbols_hold};
 
-static PIN_MAPS: [(&str, Result<&str, u32>); 18] = [
+static PIN_MAPS: [(&str, Result<&str, u32>); 21] = [
     (
         "TDI:T1, TDO:T2, TMS:T3, TCK:T4, Q:(1,2)",
         Ok("TDI T1; TDO T2; TMS T3; TCK T4; Q 1 2; "),
@@ -32,6 +32,10 @@ static PIN_MAPS: [(&str, Result<&str, u32>); 18] = [
     // A pin of two words, and a line feed, which is not allowed in a string.
     ("A:1 2, B:3", Err(1)),
     ("A:1, B:2\n, C:3", Err(2)),
+    // A port that begins with `_`, and a vertical tab and a form feed, which are no blanks of a string.
+    ("_A:1", Err(1)),
+    ("A:1,\x0bB:2", Err(2)),
+    ("A:1, B:2\x0c", Err(2)),
 ];
 
 #[test]
@@ -86,11 +90,13 @@ fn patterns(rt: HostRuntime) -> Result<(), CaseFault> {
     strings_hold(rt.alloc(), Grammar::Pattern, &PATTERNS)
 }
 
-static COMPLIANCE: [(&str, Result<&str, u32>); 16] = [
+static COMPLIANCE: [(&str, Result<&str, u32>); 18] = [
     ("(A) (1)", Ok("A  1")),
     ("(A, B(1), C) (1X0, 010)", Ok("A B[1] C  1X0 010")),
     (" ( en(7) ) ( 0 , 1 ) ", Ok("EN[7]  0 1")),
     ("(A)(X)", Ok("A  X")),
+    // An index has up to nine digits.
+    ("(A(123456789)) (1)", Ok("A[123456789]  1")),
     // The first pair of parentheses is missing, not closed or empty, or contains an extra comma or an index of ten digits.
     ("", Err(1)),
     ("A (1)", Err(1)),
@@ -98,6 +104,7 @@ static COMPLIANCE: [(&str, Result<&str, u32>); 16] = [
     ("() (1)", Err(1)),
     ("(A,) (1)", Err(1)),
     ("(A(1234567890)) (1)", Err(1)),
+    ("(A(1 2)) (1)", Err(1)),
     // The second pair of parentheses is missing, does not contain a list of codes, or is not at the end.
     ("(A)", Err(2)),
     ("(A),(1)", Err(2)),
@@ -112,7 +119,7 @@ fn compliance_strings(rt: HostRuntime) -> Result<(), CaseFault> {
     strings_hold(rt.alloc(), Grammar::Compliance, &COMPLIANCE)
 }
 
-static BOUNDARY: [(&str, Result<&str, u32>); 17] = [
+static BOUNDARY: [(&str, Result<&str, u32>); 24] = [
     (
         "0 (BC_1, Q(1), output2, X),1 (BC_1, Q(2), output2, X)",
         Ok("0 Q[1] Output2 Any; 1 Q[2] Output2 Any; "),
@@ -158,6 +165,21 @@ static BOUNDARY: [(&str, Result<&str, u32>); 17] = [
         Err(2),
     ),
     ("0 (BC_1, Q, output2, X),1 (BC_1, Q, output2, X),", Err(3)),
+    // A number has up to nine digits.
+    (
+        "123456789 (BC_1, Q(999999999), output2, X)",
+        Ok("123456789 Q[999999999] Output2 Any; "),
+    ),
+    ("0 (BC_1, Q(1234567890), output2, X)", Err(1)),
+    ("0 (BC_1, Q, output3, X, 1234567890, 1, Z)", Err(1)),
+    // Blanks between all parts, and blanks inside an index, a function and a cell number.
+    (
+        "\t0 ( BC_1 , Q ( 1 ) , output3 , X , 1 , 1 , Z ) ",
+        Ok("0 Q[1] Output3 Any 1 true; "),
+    ),
+    ("0 (BC_1, Q(1 2), output2, X)", Err(1)),
+    ("0 (BC_1, Q, output 2, X)", Err(1)),
+    ("1 0 (BC_1, Q, output2, X)", Err(1)),
 ];
 
 #[test]
