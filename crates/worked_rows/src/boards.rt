@@ -57,7 +57,7 @@ const CHAINS: [Case; 10] = [
     ),
 ];
 
-const NET_FILES: [Case; 14] = [
+const NET_FILES: [Case; 15] = [
     (
         CHAIN,
         "NET N1 U1.9",
@@ -75,6 +75,13 @@ const NET_FILES: [Case; 14] = [
         "NET N1 U1.1 U2.1\nNET N2 U1.1",
         "drv rcv",
         "n line 2 word 3: pin in two nets\n",
+    ),
+    // Both nets name the pin twice.
+    (
+        CHAIN,
+        "NET N1 U1.1 U1.1\nNET N2 U2.1 U1.1 U1.1",
+        "drv rcv",
+        "n line 2 word 4: pin in two nets\n",
     ),
     (
         "BYPASS U1 2",
@@ -128,7 +135,7 @@ const NET_FILES: [Case; 14] = [
 // A net file in which the resistor R1 connects the driver's net N1A with the receiver's net N1B.
 const LINK_NETS: &str = "NET N1A U1.1 R1.1\nNET N1B R1.2 U2.1\nNET N2 U1.2 U2.2";
 
-const LINKS_AND_PULLS: [Case; 7] = [
+const LINKS_AND_PULLS: [Case; 8] = [
     (
         "DEVICE U1 DRV -\nDEVICE U2 RCV -\nLINK R1 1 9",
         LINK_NETS,
@@ -147,6 +154,13 @@ const LINKS_AND_PULLS: [Case; 7] = [
         LINK_NETS,
         "drv rcv",
         "n line 1 word 3: driver on a guarded net\n",
+    ),
+    // Each joined net has a driver that is always on.
+    (
+        "DEVICE U1 DRV -\nDEVICE U2 DRV -\nLINK R1 1 2",
+        "NET N1A U1.1 R1.1\nNET N1B R1.2 U2.1",
+        "drv",
+        "n line 2 word 4: two drivers always on\n",
     ),
     // btest refuses a SUPPLY line that names no net, even if there are LINK lines.
     (

@@ -157,7 +157,7 @@ const DARKENED: [Row; 5] = [
 ];
 
 // The list has the drivers, the receivers and the pairs of nets that no safe setting tests.
-const UNTESTED: [Row; 5] = [
+const UNTESTED: [Row; 6] = [
     Row {
         texts: &[
             (
@@ -179,6 +179,18 @@ const UNTESTED: [Row; 5] = [
         ],
         line: "cover c n bi ts",
         ending: Ending::Puts("NETS 1 COVERED 1\nDRIVER U1.1\n"),
+    },
+    // A net may have one driver that is always on. No other driver of the net can then be enabled.
+    Row {
+        texts: &[
+            (
+                "c",
+                Plain("DEVICE U1 DRV -\nDEVICE U2 TS -\nDEVICE U3 RCV1 -"),
+            ),
+            ("n", Plain("NET N U1.1 U2.1 U3.1")),
+        ],
+        line: "cover c n drv ts rcv1",
+        ending: Ending::Puts("NETS 1 COVERED 1\nDRIVER U2.1\n"),
     },
     // The receiver U1.1 is not tested, since the only driver of its net is on the same pin.
     Row {
@@ -254,9 +266,21 @@ const LINKS: [Row; 3] = [
 ];
 
 // Rows in which the nets of a driver and a receiver are covered, and rows about names.
-const COVERED: [Row; 5] = [
+const COVERED: [Row; 6] = [
     Row {
         texts: &[("c", Plain(CHAIN)), ("n", Plain(NETS))],
+        line: "cover c n drv rcv",
+        ending: Ending::Puts("NETS 2 COVERED 2\n"),
+    },
+    // Lines that end with CR LF.
+    Row {
+        texts: &[
+            ("c", Plain("DEVICE U1 DRV -\r\nDEVICE U2 RCV -\r\n")),
+            (
+                "n",
+                Plain("NET N1 U1.1 U2.1\r\n\r\nNET N2 U1.2 U2.2 # two\r\n"),
+            ),
+        ],
         line: "cover c n drv rcv",
         ending: Ending::Puts("NETS 2 COVERED 2\n"),
     },
