@@ -13,7 +13,7 @@ use Rattle.bsdl_strings.specs.Pieces.{pieces}
 use Rattle.bsdl_strings.specs.inner.Reading.{StopsOn}
 use Rattle.bsdl_strings.specs.Faults.{stop_fault, NamesEntry}
 use Rattle.bsdl_strings.specs.Strings.{bit_behind, bit, bit_turn, first_parenthesis, second_parenthesis, compliance, IsCompliance, HasFirstParenthesis, IsNoCompliance}
-use Rattle.bsdl_strings.proofs.Lists.{can_codes}
+use Rattle.bsdl_strings.specs.inner.Takes.{can_group, code_takes}
 
 bit_of_takes : (name : List ℕ) (next : Option Bool) → EachTurnTakes (bit_behind name next)
 bit_of_takes name (Some more) = tt
@@ -33,7 +33,7 @@ first_takes = (tt, λ u. λ before. turn_takes before)
 
 second_takes : EachTurnTakes second_parenthesis
 unfolding second_parenthesis
-second_takes = (tt, λ u. (each_takes can_codes, λ patterns. (tt, λ v. tt)))
+second_takes = (tt, λ u. (each_takes (can_group code_takes), λ patterns. (tt, λ v. tt)))
 
 pub compliance_takes : EachTurnTakes compliance
 unfolding compliance

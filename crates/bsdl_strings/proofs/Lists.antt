@@ -1,78 +1,29 @@
 -- Lemmas about lists in a string. A reader can read their entries and marks, and an entry in which
 -- it stops is the first wrong entry.
-use Rattle.std.proofs.Common.{◌≡◌, ℕ, ◌<◌, ◌^◌, length, arith, subst, sym, ◌∙◌, ap, Bool, true, false, List, [], ◌∷◌, ◌++◌, Option, Some, None, inl}
+use Rattle.std.proofs.Common.{◌≡◌, ℕ, ◌<◌, ◌^◌, length, arith, subst, sym, ◌∙◌, ap, Bool, true, List, [], ◌∷◌, ◌++◌, Option, Some, None}
 use Rattle.std.specs.Borrow.{Bor}
 use Rattle.grammars.specs.inner.Reader.{found}
 use Rattle.grammars.specs.Grammar.{reader_of_grammar}
 use Rattle.grammars.specs.Lists.{list_of}
-use Rattle.grammars.proofs.Grammars.{TakesToken, EachTurnTakes}
 use Rattle.grammars.proofs.ListReaders.{CanRead, Progress, each_takes, stops_at_entry, stops_after_entry, wrong_at_entry, wrong_after_entry, ends_with, value_of_list, goes_further, shorter}
 use Rattle.bsdl_strings.specs.declared.stop.Stop.{Stop}
 use Rattle.bsdl_strings.specs.declared.stop.Stop.TheVariants.{Memory, At}
 use Rattle.bsdl_strings.specs.Pieces.{pieces}
 use Rattle.bsdl_strings.specs.inner.Reading.{StopsOn, more_of}
+use Rattle.bsdl_strings.specs.inner.Takes.{can_all, map_takes, opcode_takes, entry_takes}
 use Rattle.bsdl_strings.specs.Faults.{stop_fault, NamesEntry}
 use Rattle.bsdl_strings.proofs.PieceLemmas.{length_pieces}
-use Rattle.bsdl_strings.specs.Places.{Part, pin, code, comma_or_end}
-use Rattle.bsdl_strings.specs.Strings.{comma_or_close, entry_pins, map_entry, opcode, indexed, rest_of_place, port_place, control_of, control, cell, entry, IsListOf, IsNoListOf}
-
-pub can_pins : CanRead pin comma_or_close
-can_pins = record { takes = tt; takes_mark = tt; entries = tt; marks = tt }
-
-pub can_codes : CanRead code comma_or_close
-can_codes = record { takes = tt; takes_mark = tt; entries = tt; marks = tt }
-
-pins_take : (first : Option (List ℕ)) → EachTurnTakes (entry_pins first)
-pins_take (Some name) = tt
-pins_take None = each_takes can_pins
+use Rattle.bsdl_strings.specs.Places.{Part, comma_or_end}
+use Rattle.bsdl_strings.specs.Strings.{map_entry, opcode, entry, IsListOf, IsNoListOf}
 
 pub can_maps : CanRead map_entry comma_or_end
-unfolding map_entry
-can_maps =
-    record {
-      takes = inl tt;
-      takes_mark = tt;
-      entries =
-          (tt, λ port. (tt, λ u. (tt, λ first. (pins_take first, λ pins. tt))));
-      marks = tt;
-    }
+can_maps = can_all map_takes
 
 pub can_opcodes : CanRead opcode comma_or_end
-unfolding opcode
-can_opcodes = record { takes = inl tt; takes_mark = tt; entries = (tt, λ name. (tt, λ u. (each_takes can_codes, λ codes. tt))); marks = tt }
-
-indexed_takes : (name : List ℕ) (opens : Bool) → EachTurnTakes (indexed name opens)
-indexed_takes name false = tt
-indexed_takes name true = (tt, λ i. (tt, λ u. (tt, λ v. tt)))
-
-place_takes : (first : Option (List ℕ)) → EachTurnTakes (rest_of_place first)
-place_takes None = (tt, λ u. tt)
-place_takes (Some name) = (tt, λ opens. indexed_takes name opens)
-
-port_takes : EachTurnTakes port_place
-unfolding port_place
-port_takes = (tt, λ first. place_takes first)
-
-control_of_takes : (more : Bool) → EachTurnTakes (control_of more)
-control_of_takes false = tt
-control_of_takes true = (tt, λ cell. (tt, λ u. (tt, λ disable. (tt, λ v. (tt, λ w. (tt, λ x. tt))))))
-
-control_takes : EachTurnTakes control
-unfolding control
-control_takes = (tt, λ more. control_of_takes more)
-
-cell_takes : TakesToken cell × EachTurnTakes cell
-unfolding cell
-cell_takes = (inl tt, (tt, λ num. (tt, λ u. (tt, λ name. (tt, λ v. tt)))))
+can_opcodes = can_all opcode_takes
 
 pub can_entries : CanRead entry comma_or_end
-unfolding entry
-can_entries = record {
-  takes = inl cell_takes.0;
-  takes_mark = tt;
-  entries = (cell_takes.1, λ num. (port_takes, λ port. (tt, λ role. (tt, λ u. (tt, λ safe. (control_takes, λ ctl. tt))))));
-  marks = tt;
-}
+can_entries = can_all entry_takes
 
 pub stops_in_entry : {A : Type 0} {entry : Part A} {more : Part Bool} → CanRead entry more
     → (tokens here : List (List ℕ)) (before : List A) (stop : Stop)

@@ -7,11 +7,10 @@ ghost use Rattle.bsdl_strings.specs.inner.Reading.{ReadsPieces};
 ghost use Rattle.bsdl_strings.specs.Faults.{NamesEntry};
 ghost use Rattle.bsdl_strings.specs.Strings.{bit_behind, bit as any_bit, bits as any_bits, first_parenthesis as the_first, second_parenthesis as the_second, IsCompliance, IsNoCompliance};
 
-use crate::entries::codes;
 use crate::fault::StringFault;
+use crate::listed::{fault, group};
 use crate::places::{either_mark, end, index, mark, mark_after_bit, word};
 use crate::stop::Stop;
-use crate::strings::fault;
 use crate::values::{Compliance, PortWord};
 use board_defs::{Code, Items, Name};
 use std::alloc::Global;
@@ -79,7 +78,7 @@ fn second_parenthesis(alloc: Global, text: &[u8]) -> Result<Items<Code>, Stop<'_
         (reader_of_grammar the_second (pieces text.now)) }
 {
     let rest = mark(text, b'(')?;
-    let (patterns, rest) = codes(alloc, rest)?;
+    let (patterns, rest) = group(alloc, rest)?;
     end(rest)?;
     Ok(patterns)
 }

@@ -2,12 +2,13 @@
 ghost use Rattle.std.specs.Prelude.{◌≡◌, [], ◌∷◌, IfOk};
 ghost use Rattle.grammars.specs.inner.Reader.{found};
 ghost use Rattle.grammars.specs.Grammar.{reader_of_grammar};
-ghost use Rattle.grammars.specs.Lists.{list_of};
 ghost use Rattle.bsdl_strings.specs.Pieces.{pieces};
 ghost use Rattle.bsdl_strings.specs.inner.Reading.{ReadsPieces};
+ghost use Rattle.bsdl_strings.specs.inner.Takes.{pin_takes, code_takes, map_takes, opcode_takes, entry_takes};
 ghost use Rattle.bsdl_strings.specs.Places.{pin as any_pin, code as any_code};
-ghost use Rattle.bsdl_strings.specs.Strings.{comma_or_close, entry_pins, map_entry as any_map_entry, opcode as any_opcode, indexed as index_after, rest_of_place, port_place as any_port_place, control_of, control as any_control, cell as any_cell, entry as any_entry};
+ghost use Rattle.bsdl_strings.specs.Strings.{entry_pins, map_entry as any_map_entry, opcode as any_opcode, indexed as index_after, rest_of_place, port_place as any_port_place, control_of, control as any_control, cell as any_cell, entry as any_entry};
 
+use crate::listed::{Listed, group};
 use crate::places::{
     code, either_mark, index, mark, pin, pin_or_group, result_of_disabling, role, safe, word,
     word_as_written, word_unless_star,
@@ -17,44 +18,58 @@ use crate::values::{Entry, MapEntry, Opcode, PortWord};
 use board_defs::{Code, Control, Items, Name};
 use std::alloc::{AllocError, Global};
 
-/// Reads pins up to and including the closing parenthesis.
-fn pins(alloc: Global, text: &[u8]) -> Result<(Items<Name>, &[u8]), Stop<'_>>
-    ensures { ReadsPieces (λ x. found x.0 (pieces x.1.now)) result
-        (reader_of_grammar (list_of any_pin comma_or_close) (pieces text.now)) }
-{
-    let mut pins = Vec::new(alloc);
-    let mut rest = text;
-    loop {
-        let (one, after) = pin(alloc, rest)?;
-        pins.push(one)?;
-        let (more, next) = either_mark(after, b',', b')')?;
-        rest = next;
-        if !more {
-            return Ok((Items::of(pins), rest));
-        }
+impl Listed for Name {
+    ghost grammar = { any_pin };
+
+    fn read(alloc: Global, text: &[u8]) -> Result<(Name, &[u8]), Stop<'_>> {
+        pin(alloc, text)
     }
+
+    ghost takes = { pin_takes };
 }
 
-/// Reads codes up to and including the closing parenthesis.
-pub(crate) fn codes(alloc: Global, text: &[u8]) -> Result<(Items<Code>, &[u8]), Stop<'_>>
-    ensures { ReadsPieces (λ x. found x.0 (pieces x.1.now)) result
-        (reader_of_grammar (list_of any_code comma_or_close) (pieces text.now)) }
-{
-    let mut codes = Vec::new(alloc);
-    let mut rest = text;
-    loop {
-        let (one, after) = code(alloc, rest)?;
-        codes.push(one)?;
-        let (more, next) = either_mark(after, b',', b')')?;
-        rest = next;
-        if !more {
-            return Ok((Items::of(codes), rest));
-        }
+impl Listed for Code {
+    ghost grammar = { any_code };
+
+    fn read(alloc: Global, text: &[u8]) -> Result<(Code, &[u8]), Stop<'_>> {
+        code(alloc, text)
     }
+
+    ghost takes = { code_takes };
+}
+
+impl Listed for MapEntry {
+    ghost grammar = { any_map_entry };
+
+    fn read(alloc: Global, text: &[u8]) -> Result<(MapEntry, &[u8]), Stop<'_>> {
+        map_entry(alloc, text)
+    }
+
+    ghost takes = { map_takes };
+}
+
+impl Listed for Opcode {
+    ghost grammar = { any_opcode };
+
+    fn read(alloc: Global, text: &[u8]) -> Result<(Opcode, &[u8]), Stop<'_>> {
+        opcode(alloc, text)
+    }
+
+    ghost takes = { opcode_takes };
+}
+
+impl Listed for Entry {
+    ghost grammar = { any_entry };
+
+    fn read(alloc: Global, text: &[u8]) -> Result<(Entry, &[u8]), Stop<'_>> {
+        entry(alloc, text)
+    }
+
+    ghost takes = { entry_takes };
 }
 
 #[tactic(auto, unfolding(crate::specs::Strings::map_entry))]
-pub(crate) fn map_entry(alloc: Global, text: &[u8]) -> Result<(MapEntry, &[u8]), Stop<'_>>
+fn map_entry(alloc: Global, text: &[u8]) -> Result<(MapEntry, &[u8]), Stop<'_>>
     ensures { ReadsPieces (λ x. found x.0 (pieces x.1.now)) result
         (reader_of_grammar any_map_entry (pieces text.now)) }
 {
@@ -77,7 +92,7 @@ fn pins_from(
 {
     match first {
         Some(pin) => Ok((one_pin(alloc, pin)?, text)),
-        None => pins(alloc, text),
+        None => group(alloc, text),
     }
 }
 
@@ -90,13 +105,13 @@ fn one_pin(alloc: Global, pin: Name) -> Result<Items<Name>, AllocError>
 }
 
 #[tactic(auto, unfolding(crate::specs::Strings::opcode))]
-pub(crate) fn opcode(alloc: Global, text: &[u8]) -> Result<(Opcode, &[u8]), Stop<'_>>
+fn opcode(alloc: Global, text: &[u8]) -> Result<(Opcode, &[u8]), Stop<'_>>
     ensures { ReadsPieces (λ x. found x.0 (pieces x.1.now)) result
         (reader_of_grammar any_opcode (pieces text.now)) }
 {
     let (name, rest) = word(alloc, text)?;
     let rest = mark(rest, b'(')?;
-    let (codes, rest) = codes(alloc, rest)?;
+    let (codes, rest) = group(alloc, rest)?;
     Ok((Opcode { name, codes }, rest))
 }
 
@@ -183,7 +198,7 @@ fn cell(text: &[u8]) -> Result<(u32, &[u8]), Stop<'_>>
 }
 
 #[tactic(auto, unfolding(crate::specs::Strings::entry))]
-pub(crate) fn entry(alloc: Global, text: &[u8]) -> Result<(Entry, &[u8]), Stop<'_>>
+fn entry(alloc: Global, text: &[u8]) -> Result<(Entry, &[u8]), Stop<'_>>
     ensures { ReadsPieces (λ x. found x.0 (pieces x.1.now)) result
         (reader_of_grammar any_entry (pieces text.now)) }
 {

@@ -6,6 +6,7 @@ mod compliance_string;
 mod entries;
 mod fault;
 pub mod law;
+mod listed;
 mod pieces;
 mod places;
 mod stop;

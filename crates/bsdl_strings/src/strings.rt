@@ -1,27 +1,14 @@
 //! Reads pin maps, opcode strings, boundary registers and patterns.
-ghost use Rattle.std.specs.Prelude.{◌≡◌, ◌<◌, ◌^◌, length, IfOk, IfErr};
-ghost use Rattle.bsdl_strings.specs.Faults.{stop_fault, NamesEntry};
+ghost use Rattle.std.specs.Prelude.{◌<◌, ◌^◌, length, IfOk, IfErr};
+ghost use Rattle.bsdl_strings.specs.Faults.{NamesEntry};
 ghost use Rattle.bsdl_strings.specs.Strings.{IsPinMap, IsNoPinMap, AreOpcodes, AreNoOpcodes, IsBoundary, IsNoBoundary, IsPattern, IsNoPattern};
 
-use crate::entries::{entry, map_entry, opcode};
 use crate::fault::StringFault;
-use crate::places::{code_from, comma, leading_symbols, spells_code};
-use crate::stop::Stop;
+use crate::listed::all_entries;
+use crate::places::{code_from, leading_symbols, spells_code};
 use crate::values::{Entry, MapEntry, Opcode};
 use board_defs::Code;
 use std::alloc::Global;
-
-/// Returns the fault if reading stopped after `entries` whole entries: the number of the next entry,
-/// or lack of memory. `entries` must be below 2^31.
-pub(crate) fn fault(stop: Stop<'_>, entries: usize) -> StringFault
-    requires { entries < 2 ^ 31 }
-    ensures { result ≡ stop_fault stop.entry entries }
-{
-    match stop {
-        Stop::Memory(error) => StringFault::Memory(error),
-        Stop::At(_) => StringFault::At(entries as u32 + 1),
-    }
-}
 
 /// Returns the entries of a pin map, in the order of the text. Each entry is a port with its pins.
 /// The text must be shorter than 2^32 bytes.
@@ -33,24 +20,7 @@ pub fn pin_map(alloc: Global, text: &[u8]) -> Result<Vec<MapEntry>, StringFault>
     ensures value { IfOk result (λ maps. IsPinMap text.now maps.items) }
     ensures fault { IfErr result (NamesEntry (IsNoPinMap text.now)) }
 {
-    let mut maps = Vec::new(alloc);
-    let mut rest = text;
-    'entries: loop {
-        let (one, after) = match map_entry(alloc, rest) {
-            Ok(found) => found,
-            Err(stop) => return Err(fault(stop, maps.len())),
-        };
-        match comma(after) {
-            Err(stop) => return Err(fault(stop, maps.len())),
-            Ok(more) => {
-                maps.push(one)?;
-                match more {
-                    None => return Ok(maps),
-                    Some(next) => rest = next,
-                }
-            }
-        }
-    }
+    all_entries(alloc, text)
 }
 
 /// Returns the entries of an opcode string, in the order of the text. Each entry is an instruction
@@ -63,24 +33,7 @@ pub fn opcodes(alloc: Global, text: &[u8]) -> Result<Vec<Opcode>, StringFault>
     ensures value { IfOk result (λ ops. AreOpcodes text.now ops.items) }
     ensures fault { IfErr result (NamesEntry (AreNoOpcodes text.now)) }
 {
-    let mut ops = Vec::new(alloc);
-    let mut rest = text;
-    'entries: loop {
-        let (one, after) = match opcode(alloc, rest) {
-            Ok(found) => found,
-            Err(stop) => return Err(fault(stop, ops.len())),
-        };
-        match comma(after) {
-            Err(stop) => return Err(fault(stop, ops.len())),
-            Ok(more) => {
-                ops.push(one)?;
-                match more {
-                    None => return Ok(ops),
-                    Some(next) => rest = next,
-                }
-            }
-        }
-    }
+    all_entries(alloc, text)
 }
 
 /// Returns the entries of a boundary register, in the order of the text. The text must be shorter
@@ -93,24 +46,7 @@ pub fn boundary(alloc: Global, text: &[u8]) -> Result<Vec<Entry>, StringFault>
     ensures value { IfOk result (λ cells. IsBoundary text.now cells.items) }
     ensures fault { IfErr result (NamesEntry (IsNoBoundary text.now)) }
 {
-    let mut cells = Vec::new(alloc);
-    let mut rest = text;
-    'entries: loop {
-        let (one, after) = match entry(alloc, rest) {
-            Ok(found) => found,
-            Err(stop) => return Err(fault(stop, cells.len())),
-        };
-        match comma(after) {
-            Err(stop) => return Err(fault(stop, cells.len())),
-            Ok(more) => {
-                cells.push(one)?;
-                match more {
-                    None => return Ok(cells),
-                    Some(next) => rest = next,
-                }
-            }
-        }
-    }
+    all_entries(alloc, text)
 }
 
 /// Returns the code that a pattern spells. The rightmost character of the pattern is the symbol

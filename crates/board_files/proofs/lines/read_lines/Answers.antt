@@ -1,4 +1,4 @@
--- Each step of the loop reads one line. A fault of this line is the fault of the file.
+-- The code reads the file one line at a time.
 use Rattle.std.proofs.Common.{◌≡◌, ◌+◌, ◌<◌, ◌≤◌, ◌^◌, ◌++◌, ◌∷◌, [], length, map, ap, ◌∙◌, sym, Ok, rules, arith}
 use Rattle.std.specs.Prelude.{option_copied}
 use Rattle.std.proofs.lemmas.List.{length-map, length_push}

@@ -1,0 +1,84 @@
+//! Reads lists of entries: a list that is a whole string, and a list in parentheses.
+ghost use Rattle.std.specs.Prelude.{◌≡◌, ◌<◌, ◌^◌, length, IfOk, IfErr};
+ghost use Rattle.grammars.specs.inner.Reader.{found};
+ghost use Rattle.grammars.specs.Grammar.{reader_of_grammar};
+ghost use Rattle.grammars.specs.Lists.{list_of};
+ghost use Rattle.bsdl_strings.specs.Faults.{stop_fault, NamesEntry};
+ghost use Rattle.bsdl_strings.specs.Pieces.{pieces};
+ghost use Rattle.bsdl_strings.specs.Places.{Part};
+ghost use Rattle.bsdl_strings.specs.Strings.{comma_or_close, IsListOf, IsNoListOf};
+ghost use Rattle.bsdl_strings.specs.inner.Reading.{ReadsPieces};
+ghost use Rattle.bsdl_strings.specs.inner.Takes.{Takes};
+
+use crate::fault::StringFault;
+use crate::places::{comma, either_mark};
+use crate::stop::Stop;
+use board_defs::Items;
+use std::alloc::Global;
+
+/// An entry of a list.
+pub(crate) trait Listed: Drop {
+    ghost grammar: { Part Self };
+
+    /// Reads an entry. Returns it with the text after it.
+    fn read(alloc: Global, text: &[u8]) -> Result<(Self, &[u8]), Stop<'_>>
+        ensures { ReadsPieces (λ x. found x.0 (pieces x.1.now)) result
+            (reader_of_grammar grammar (pieces text.now)) };
+
+    ghost takes: { Takes grammar };
+}
+
+/// Returns the fault of a list if reading stopped after `entries` whole entries.
+pub(crate) fn fault(stop: Stop<'_>, entries: usize) -> StringFault
+    requires { entries < 2 ^ 31 }
+    ensures { result ≡ stop_fault stop.entry entries }
+{
+    match stop {
+        Stop::Memory(error) => StringFault::Memory(error),
+        Stop::At(_) => StringFault::At(entries as u32 + 1),
+    }
+}
+
+/// Returns the entries of a string in which commas separate the entries.
+pub(crate) fn all_entries<T: Listed>(alloc: Global, text: &[u8]) -> Result<Vec<T>, StringFault>
+    requires { length text.now < 2 ^ 32 }
+    ensures value { IfOk result (λ entries. IsListOf T.grammar text.now entries.items) }
+    ensures fault { IfErr result (NamesEntry (IsNoListOf T.grammar text.now)) }
+{
+    let mut entries = Vec::new(alloc);
+    let mut rest = text;
+    'entries: loop {
+        let (one, after) = match T::read(alloc, rest) {
+            Ok(found) => found,
+            Err(stop) => return Err(fault(stop, entries.len())),
+        };
+        match comma(after) {
+            Err(stop) => return Err(fault(stop, entries.len())),
+            Ok(more) => {
+                entries.push(one)?;
+                match more {
+                    None => return Ok(entries),
+                    Some(next) => rest = next,
+                }
+            }
+        }
+    }
+}
+
+/// Reads entries up to and including the closing parenthesis. Commas separate the entries.
+pub(crate) fn group<T: Listed>(alloc: Global, text: &[u8]) -> Result<(Items<T>, &[u8]), Stop<'_>>
+    ensures { ReadsPieces (λ x. found x.0 (pieces x.1.now)) result
+        (reader_of_grammar (list_of T.grammar comma_or_close) (pieces text.now)) }
+{
+    let mut entries = Vec::new(alloc);
+    let mut rest = text;
+    'entries: loop {
+        let (one, after) = T::read(alloc, rest)?;
+        entries.push(one)?;
+        let (more, next) = either_mark(after, b',', b')')?;
+        rest = next;
+        if !more {
+            return Ok((Items::of(entries), rest));
+        }
+    }
+}
