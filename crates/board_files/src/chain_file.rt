@@ -7,11 +7,12 @@ ghost use Rattle.board_files.specs.Files.{IsChainFile};
 ghost use Rattle.board_files.specs.ChainLines.{package_of, decimal_from, length_in_bypass, is_bit_word, device_statement, bypass_of, inert_statement, supply_statement, pull_statement, link_of, chain_statement, chain_line, chain_lines, HasBypassLength};
 
 use crate::fault::LineFault;
+use crate::lines::{FileLine, read_lines};
 use crate::words::{is_part, is_symbol, one_of, three_of, two_of};
 use board_defs::{MOST_INSTRUCTION_BITS, Name};
 use std::alloc::{AllocError, Global};
 use std::marker::Model;
-use text_lines::{first_line, is_word, words};
+use text_lines::is_word;
 
 /// A statement of a chain file. Entity, package and pin names are in upper case.
 #[derive(Drop)]
@@ -107,36 +108,16 @@ pub fn chain(alloc: Global, bytes: &[u8]) -> Result<ChainFile, LineFault>
     Ok(ChainFile::of(lines))
 }
 
-// Returns the lines of a chain file, or the fault of its first faulty line. There must be fewer than
-// 2^32 bytes.
-fn read_lines(alloc: Global, bytes: &[u8]) -> Result<Vec<ChainLine>, LineFault>
-    requires { length bytes.now < 2 ^ 32 }
-    ensures read { ReadsLines (λ lines. lines.items) result (chain_lines bytes.now) }
-    ensures count { IfOk result (λ lines. vec_len lines ≤ length bytes.now) }
-{
-    let mut lines = Vec::new(alloc);
-    let mut rest = Some(bytes);
-    let mut number = 1usize;
-    while let Some(text) = rest {
-        let (line, after) = first_line(text);
-        let words = words(alloc, line)?;
-        if !words.is_empty() {
-            lines.push(chain_line(alloc, number as u32, &words)?)?;
-        }
-        number += 1;
-        rest = after;
-    }
-    Ok(lines)
-}
+impl FileLine for ChainLine {
+    ghost read = { chain_line };
 
-fn chain_line(alloc: Global, line: u32, words: &[&[u8]]) -> Result<ChainLine, LineFault>
-    ensures { ReadsLines (λ line. line) result (chain_line line (map (λ w. w.now) words.now)) }
-{
-    match words {
-        [] => Err(LineFault::Statement(line)),
-        [name, rest @ ..] => {
-            let statement = statement(alloc, line, name, rest)?;
-            Ok(ChainLine { line, statement })
+    fn from_words(alloc: Global, line: u32, words: &[&[u8]]) -> Result<ChainLine, LineFault> {
+        match words {
+            [] => Err(LineFault::Statement(line)),
+            [name, rest @ ..] => {
+                let statement = statement(alloc, line, name, rest)?;
+                Ok(ChainLine { line, statement })
+            }
         }
     }
 }

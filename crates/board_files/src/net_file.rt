@@ -8,10 +8,11 @@ ghost use Rattle.board_files.specs.Names.{line_names};
 ghost use Rattle.board_files.specs.NetLines.{read_pin_word, read_pins, read_net, read_net_line, net_lines};
 
 use crate::fault::LineFault;
+use crate::lines::{FileLine, read_lines};
 use board_defs::{Items, Name};
 use std::alloc::{AllocError, Global};
 use std::marker::Model;
-use text_lines::{cut_at, first_line, is_filled, is_word, words};
+use text_lines::{cut_at, is_filled, is_word};
 
 /// A pin of a net: the name of the pin's part, and the pin's own name in upper case.
 #[derive(Drop)]
@@ -91,33 +92,14 @@ pub fn nets(alloc: Global, bytes: &[u8]) -> Result<NetFile, LineFault>
     Ok(NetFile::of(lines))
 }
 
-// Returns the lines of a net file, or the fault of its first faulty line. There must be fewer than
-// 2^32 bytes.
-fn read_lines(alloc: Global, bytes: &[u8]) -> Result<Vec<NetLine>, LineFault>
-    requires { length bytes.now < 2 ^ 32 }
-    ensures { ReadsLines (λ lines. lines.items) result (net_lines bytes.now) }
-{
-    let mut lines = Vec::new(alloc);
-    let mut rest = Some(bytes);
-    let mut number = 1usize;
-    while let Some(text) = rest {
-        let (line, after) = first_line(text);
-        let words = words(alloc, line)?;
-        if !words.is_empty() {
-            lines.push(net_line(alloc, number as u32, &words)?)?;
-        }
-        number += 1;
-        rest = after;
-    }
-    Ok(lines)
-}
+impl FileLine for NetLine {
+    ghost read = { read_net_line };
 
-fn net_line(alloc: Global, line: u32, words: &[&[u8]]) -> Result<NetLine, LineFault>
-    ensures { ReadsLines (λ line. line) result (read_net_line line (map (λ w. w.now) words.now)) }
-{
-    match words {
-        [keyword, rest @ ..] if *keyword == b"NET".as_slice() => net(alloc, line, rest),
-        _ => Err(LineFault::Statement(line)),
+    fn from_words(alloc: Global, line: u32, words: &[&[u8]]) -> Result<NetLine, LineFault> {
+        match words {
+            [keyword, rest @ ..] if *keyword == b"NET".as_slice() => net(alloc, line, rest),
+            _ => Err(LineFault::Statement(line)),
+        }
     }
 }
 
