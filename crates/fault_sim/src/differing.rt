@@ -9,8 +9,8 @@ ghost use Rattle.fault_sim.specs.inner.Marks.{AreMarks};
 use crate::board_test::LoggedTest;
 use crate::fits::net_count;
 use crate::marks::are_marked;
-use crate::tested::push_if;
 use board_defs::law;
+use lists::push_if;
 use std::alloc::{AllocError, Global};
 use tap_defs::board_law;
 

@@ -1,6 +1,6 @@
 // The nets that the passes of a plan observe, and the pins that these passes test. A pass observes a net if it enables a driver on the net
 // and some compared cell reads another pin of the net.
-ghost use Rattle.std.specs.Prelude.{◌≡◌, ◌≤◌, ◌++◌, ◌∷◌, [], if◌then◌else◌, length, fold, IfOk, OnOk};
+ghost use Rattle.std.specs.Prelude.{◌≡◌, ◌≤◌, ◌++◌, length, fold, IfOk, OnOk};
 ghost use Rattle.std.specs.List.{list_all};
 ghost use Rattle.board_defs.specs.Limits.{most_pins};
 ghost use Rattle.fault_sim.specs.Kept.{KeepDrivers};
@@ -11,19 +11,9 @@ use crate::fits::net_count;
 use crate::kept::KeptPass;
 use crate::passes::PassDrivers;
 use board_defs::{Board, PinRef, Setting, Single};
-use lists::{is_set, mark};
+use lists::{is_set, mark, push_if};
 use scan_planner::{NetDriver, Plan, ReaderCell};
 use std::alloc::{AllocError, Global};
-
-/// Adds net `n` to `nets` if `is_one` is true.
-pub fn push_if(nets: &mut Vec<u32>, n: u32, is_one: bool) -> Result<(), AllocError>
-    ensures { OnOk result (nets.new.items ≡ nets.old.items ++ (if is_one then n ∷ [] else [])) }
-{
-    if is_one {
-        nets.push(n)?;
-    }
-    Ok(())
-}
 
 /// Returns the nets below `count` that have a code, in net order. These are the nets that some pass observes.
 pub fn coded_nets(alloc: Global, plan: &Plan, count: u32) -> Result<Vec<u32>, AllocError>

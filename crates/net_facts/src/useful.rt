@@ -1,5 +1,5 @@
 // Finds the useful controls.
-ghost use Rattle.std.specs.Prelude.{◌≡◌, ◌++◌, ◌∷◌, [], if◌then◌else◌, filter, IfOk, OnOk};
+ghost use Rattle.std.specs.Prelude.{◌≡◌, ◌++◌, filter, IfOk, OnOk};
 ghost use Rattle.board_defs.specs.Passes.{all_cells, cells_of};
 ghost use Rattle.net_facts.specs.Cells.{table};
 ghost use Rattle.net_facts.specs.inner.Answers.{useful_in};
@@ -8,17 +8,9 @@ use crate::classes::ControlClass;
 use crate::controls::cells_of;
 use crate::tested::is_useful;
 use board_defs::{Ctl, PartKind};
+use lists::push_if;
 use net_pins::BoardPins;
 use std::alloc::{AllocError, Global};
-
-fn push_if(useful: &mut Vec<Ctl>, c: Ctl, passes: bool) -> Result<(), AllocError>
-    ensures { OnOk result (useful.new.items ≡ useful.old.items ++ (if passes then c ∷ [] else [])) }
-{
-    if passes {
-        useful.push(c)?;
-    }
-    Ok(())
-}
 
 fn add_part(
     useful: &mut Vec<Ctl>,

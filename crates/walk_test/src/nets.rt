@@ -13,6 +13,7 @@ use crate::setting::walk_settings;
 use crate::tables::{NetCells, WalkParts, WalkRows};
 use board_defs::{Board, Items, Setting};
 use bt_bits::Row;
+use lists::push_if;
 use net_pins::{BoardPins, NetDriver, NetPins, ReaderCell};
 use scan_planner::BoardPlan;
 use std::alloc::{AllocError, Global};
@@ -64,16 +65,6 @@ fn net_cells(
             })
         }
     }
-}
-
-// Adds the number if `is_one` is true.
-fn push_if(nets: &mut Vec<u32>, n: u32, is_one: bool) -> Result<(), AllocError>
-    ensures { OnOk result (nets.new.items ≡ nets.old.items ++ (if is_one then n ∷ [] else [])) }
-{
-    if is_one {
-        nets.push(n)?;
-    }
-    Ok(())
 }
 
 // Returns the nets below `count` that the walk setting observes.
