@@ -184,12 +184,6 @@ pub fn file_fault(
     line_fault(alloc, chain.lines(), names)
 }
 
-fn any_test_pin(board: &RawBoard, pins: &[NetPin]) -> bool
-    ensures { result ≡ list_any (is_test_pin board.now) pins.now }
-{
-    pins.iter().any(|pin| board.is_test_pin(pin))
-}
-
 /// Returns whether the net must not have an always-on driver, since it is a supply net or has a TAP
 /// or compliance pin.
 fn is_kept(board: &RawBoard, net: &Net) -> bool
@@ -198,7 +192,7 @@ fn is_kept(board: &RawBoard, net: &Net) -> bool
     if net.supply {
         true
     } else {
-        any_test_pin(board, net.pins.as_slice())
+        board.any_test_pin(net.pins.as_slice())
     }
 }
 

@@ -20,5 +20,5 @@ pub use fault::{Kind, Single};
 pub use limits::{MOST_BITS, MOST_INSTRUCTION_BITS, MOST_NETS, MOST_PARTS, MOST_PINS};
 pub use lists::Items;
 pub use name::Name;
-pub use setting::Setting;
+pub use setting::{Setting, place_in};
 pub use spot::Spot;

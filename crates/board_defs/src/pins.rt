@@ -253,6 +253,13 @@ impl RawBoard {
         }
     }
 
+    /// Returns whether one of the pins belongs to a test access port or is named by compliance patterns.
+    pub fn any_test_pin(&self, pins: &[NetPin]) -> bool
+        ensures { result ≡ list_any (is_test_pin self.now) pins.now }
+    {
+        pins.iter().any(|pin| self.is_test_pin(pin))
+    }
+
     /// Returns whether the pin is dark: something that no setting controls may drive its net.
     pub fn is_dark(&self, pin: &NetPin) -> bool
         ensures { result ≡ is_dark self.now pin.now }

@@ -1,5 +1,5 @@
 // A setting: a set of controls.
-ghost use Rattle.std.specs.Prelude.{◌≡◌, ◌≤◌, [], length, slice_get, OnOk, OnErr};
+ghost use Rattle.std.specs.Prelude.{◌≡◌, ◌≤◌, [], false, length, slice_get, MatchOption, OnOk, OnErr, Some};
 ghost use Rattle.std.specs.List.{prefix_len};
 ghost use Rattle.board_defs.specs.Settings.{holds, inserted, precedes, IsInControlOrder};
 
@@ -88,6 +88,20 @@ fn control_at(controls: &[Ctl], place: usize) -> Option<Ctl>
     ensures { result ≡ slice_get controls.now place }
 {
     controls.get(place).copied()
+}
+
+/// Returns the place of the control in the list, or None if the control is not in the list. The list must be in
+/// control order.
+pub fn place_in(controls: &[Ctl], c: Ctl) -> Option<usize>
+    requires { IsInControlOrder controls.now }
+    ensures { MatchOption result (holds controls.now c ≡ false)
+        (λ i. slice_get controls.now i ≡ Some c) }
+{
+    let place = place_of(controls, c);
+    match control_at(controls, place) {
+        None => None,
+        Some(d) => { if c.is_same(d) { Some(place) } else { None } }
+    }
 }
 
 fn has_control(controls: &[Ctl], c: Ctl) -> bool

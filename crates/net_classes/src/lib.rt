@@ -13,7 +13,6 @@ mod known;
 pub mod law;
 mod net_rows;
 mod pair_rows;
-mod places;
 mod questions;
 mod words;
 

@@ -16,9 +16,8 @@ ghost use Rattle.net_classes.specs.inner.Kept.{HoldsOfNet};
 
 use crate::classes::Classes;
 use crate::known::drivers_in;
-use crate::places::place_in;
 use crate::words::has_bit;
-use board_defs::{Board, Ctl, Drive, PinRef, RawBoard, Reason, law};
+use board_defs::{Board, Ctl, Drive, PinRef, RawBoard, Reason, law, place_in};
 use net_facts::{ControlClass, NetClass, PinClass, meet};
 use std::marker::Model;
 
@@ -39,12 +38,6 @@ impl<'a> Model for BoardClasses<'a> {
     ghost view = { λ a. a.board.now };
 
     ghost invariant = { λ a. AreClasses a.board.now a.classes.now };
-}
-
-fn is_same(a: Ctl, b: Ctl) -> bool
-    ensures { result ≡ same_ctl a b }
-{
-    a.part == b.part && a.cell == b.cell
 }
 
 impl<'a> BoardClasses<'a> {
@@ -164,7 +157,7 @@ impl<'a> BoardClasses<'a> {
         requires second { IsCell self.now b }
         ensures { result ≡ (same_ctl a b || not (share_net self.now a b)) }
     {
-        if is_same(a, b) {
+        if a.is_same(b) {
             return true;
         }
         !meet(self.shared_nets(a), self.shared_nets(b))

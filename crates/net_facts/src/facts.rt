@@ -43,18 +43,12 @@ pub struct NetFacts {
     pub pins: Few<PinFacts>,
 }
 
-fn any_test_pin(board: &RawBoard, pins: &[NetPin]) -> bool
-    ensures { result ≡ list_any (is_test_pin board.now) pins.now }
-{
-    pins.iter().any(|pin| board.is_test_pin(pin))
-}
-
 // Returns whether the net has a pin of a test access port or of compliance patterns. An unguarded net has no such pin,
 // so the function looks only at the pins of a guarded net.
 fn has_test_pin(board: &BoardPins<'_>, guarded: bool, pins: &[NetPin]) -> bool
     ensures { result ≡ (guarded && list_any (is_test_pin board.now) pins.now) }
 {
-    guarded && any_test_pin(board.raw(), pins)
+    guarded && board.raw().any_test_pin(pins)
 }
 
 // Like `has_test_pin`, but looks for dark pins.

@@ -1,7 +1,6 @@
 // The nets with drivers of two or more controls. Two controls that are safe alone can be unsafe together only if they
 // share such a net.
 ghost use Rattle.std.specs.Prelude.{◌≡◌, false, filter, map, slice_index_or, IfOk};
-ghost use Rattle.board_defs.specs.Settings.{same_ctl};
 ghost use Rattle.net_facts.specs.Cells.{table};
 ghost use Rattle.net_facts.specs.inner.Shared.{contended_in, controls_of_pins, flags_of, shared_in, with_control, with_drive};
 
@@ -20,12 +19,6 @@ pub enum Controls {
     Several,
 }
 
-fn is_one(a: Ctl, b: Ctl) -> bool
-    ensures { result ≡ same_ctl a b }
-{
-    a.part == b.part && a.cell == b.cell
-}
-
 impl Controls {
     fn with_control(self, c: Ctl) -> Controls
         ensures { result ≡ with_control self c }
@@ -33,7 +26,7 @@ impl Controls {
         match self {
             Controls::Nobody => Controls::One(c),
             Controls::One(d) => {
-                if is_one(d, c) {
+                if d.is_same(c) {
                     Controls::One(d)
                 } else {
                     Controls::Several
