@@ -1,6 +1,6 @@
 // Makes the tables of a plan. Each scan of a board's test is made from these tables.
 ghost use Rattle.std.specs.Prelude.{◌≡◌, ◌<◌, ◌≤◌, ◌^◌, length, IfOk};
-ghost use Rattle.net_pins.specs.Tables.{AreNetPins};
+ghost use Rattle.net_pins.specs.Tables.{AreNetPins, AreNetTables};
 ghost use Rattle.plan_tables.specs.Tables.{pass_cells_of};
 ghost use Rattle.plan_tables.specs.inner.Building.{table_of};
 ghost use Rattle.plan_tables.specs.inner.Codes.{AreCodes, seen_in};
@@ -12,7 +12,7 @@ ghost use Rattle.plan_tables.specs.inner.Steady.{ArePassTables, moving, steady_c
 use crate::codes::{NetCodes, net_codes};
 use crate::controls::{DriverTable, driver_table};
 use crate::instructions::{Instruction, instruction_rows};
-use crate::observers::{Observer, net_observers};
+use crate::observers::{Observer, observers_of_nets};
 use crate::placed::PlacedBoard;
 use crate::quiet::quiet_row;
 use crate::tables::{BoardRows, PassTables, PlanTables};
@@ -20,7 +20,7 @@ use crate::uses::{Uses, moving, steady_cells, uses_of};
 use board_defs::{Board, Items, Setting};
 use bt_bits::Row;
 use counting_codes::width;
-use net_pins::NetPins;
+use net_pins::{NetPins, NetTables};
 use std::alloc::{AllocError, Global};
 
 // The driver cells of the passes of a plan, and the codes of the nets.
@@ -90,11 +90,11 @@ fn cells_by(
 fn pass_tables(
     alloc: Global,
     placed: &PlacedBoard,
-    pins: &NetPins,
+    nets: &NetTables,
     quiet: &Row,
     passes: &[Setting],
 ) -> Result<PassTables, AllocError>
-    requires pins { AreNetPins placed.now.board.now pins.now }
+    requires nets { AreNetTables placed.now.board.now nets.now }
     requires quiet { quiet.now.bits
         ≡ bits_of_parts (quiet_bits placed.now.board.now) placed.now.board.now }
     requires few { length passes.now < 2 ^ 32 }
@@ -105,7 +105,7 @@ fn pass_tables(
 {
     let _ = placed.board.raw();
     let bits = placed.board.dr_bits() as usize;
-    let observers = net_observers(alloc, placed.board, pins)?;
+    let observers = observers_of_nets(alloc, placed, nets)?;
     let uses = uses_of(alloc, placed, quiet, passes)?;
     cells_by(
         alloc,
@@ -138,13 +138,13 @@ fn pass_parts(
         (seen_in board.now (length board.now.nets) parts.cells.steady parts.cells.by_control
         passes.now) parts.codes) }
 {
-    let nets = board.raw().nets.len();
+    let count = board.raw().nets.len();
     let placed = PlacedBoard {
         board,
         firsts: pins.tables.firsts.as_slice(),
     };
-    let cells = pass_tables(alloc, &placed, pins, quiet, passes)?;
-    let codes = net_codes(alloc, &placed, nets, &cells, passes)?;
+    let cells = pass_tables(alloc, &placed, &pins.nets, quiet, passes)?;
+    let codes = net_codes(alloc, &placed, count, &cells, passes)?;
     Ok(PassParts { cells, codes })
 }
 

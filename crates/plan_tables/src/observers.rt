@@ -1,13 +1,13 @@
 // Finds the drivers by which nets can be observed.
 ghost use Rattle.std.specs.Prelude.{◌≡◌, ◌++◌, option_map, IfOk, OnOk, All};
-ghost use Rattle.net_pins.specs.Tables.{AreNetPins, AreNetTables};
+ghost use Rattle.net_pins.specs.Tables.{AreNetTables};
 ghost use Rattle.plan_tables.specs.Tables.{control_position};
 ghost use Rattle.plan_tables.specs.inner.Building.{IsControlThere, observer, observers_of, observers};
 
 use crate::placed::PlacedBoard;
 use crate::tables::DriverCell;
-use board_defs::{Board, Ctl, Items};
-use net_pins::{NetDriver, NetPins, NetTables, ReaderCell, cell_position};
+use board_defs::{Ctl, Items};
+use net_pins::{NetDriver, NetTables, ReaderCell, cell_position};
 use std::alloc::{AllocError, Global};
 
 /// A driver by which its net can be observed, because another pin of the net has a compared cell. `control` is the
@@ -64,9 +64,9 @@ fn push_observers(
     Ok(())
 }
 
-// Returns the drivers by which the nets of a board can be observed, in net order. `nets` must have the drivers
-// and the compared cells of the board's nets.
-fn observers_of_nets(
+/// Returns the drivers by which the nets of a board can be observed, in net order. `pins` must be the pins of the
+/// board's nets.
+pub fn observers_of_nets(
     alloc: Global,
     placed: &PlacedBoard,
     nets: &NetTables,
@@ -81,21 +81,4 @@ fn observers_of_nets(
         push_observers(placed, n, nets.drivers(n), nets.readers(n), &mut observers)?;
     }
     Ok(Items::of(observers))
-}
-
-/// Returns the drivers by which the nets of a board can be observed, in net order. `pins` must be the pins of the
-/// board's nets.
-pub fn net_observers(
-    alloc: Global,
-    board: &Board,
-    pins: &NetPins,
-) -> Result<Items<Observer>, AllocError>
-    requires { AreNetPins board.now pins.now }
-    ensures { IfOk result (λ found. found ≡ observers board.now board.now.nets) }
-{
-    let placed = PlacedBoard {
-        board,
-        firsts: pins.tables.firsts.as_slice(),
-    };
-    observers_of_nets(alloc, &placed, &pins.nets)
 }
