@@ -11,6 +11,7 @@ ghost use Rattle.walk_test.specs.inner.Filled.{FillsWalkRows};
 use crate::tables::{NetCells, WalkTables};
 use board_defs::Board;
 use bt_bits::Row;
+use scan_planner::BoardPlan;
 use std::marker::Model;
 use tap_defs::{ScanRows, Shape};
 
@@ -140,7 +141,7 @@ pub fn fill_scan(board: &Board, tables: &WalkTables, k: u64, rows: &mut ScanRows
 {
     let _rules = board.raw();
     if k < 3 {
-        tables.plan.fill(board, k, rows.tdi, rows.tdo, rows.mask)
+        BoardPlan::new(board, &tables.plan).fill(k, rows)
     } else {
         RowFiller::of(board, tables).fill((k - 3) as usize, rows)
     }
