@@ -6,7 +6,7 @@ pub mod Pairwise
 pub mod SafeSettings
 pub mod Covered
 pub mod Reasons
-mod Samples
+pub mod Samples
 mod SamplePins
 mod SampleTerms
 mod SampleRules

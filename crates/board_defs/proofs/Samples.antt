@@ -223,10 +223,10 @@ not_dark = refl
 
 -- A net with a driver that its own cell enables. If the net is pulled to the cell's disable value, the driver is a switching driver.
 -- Otherwise it is one-sided and blocks its net.
-abbrev pulled : Option Bool → Net
+abbrev pub pulled : Option Bool → Net
 pulled pull = net 0 pull (pin 0 0 ∷ pin 1 0 ∷ [])
 
-abbrev pull : Option Bool → RawBoard
+abbrev pub pull : Option Bool → RawBoard
 pull value = board (od ∷ rcv ∷ []) (pulled value ∷ [])
 
 pull_rules : (value : Option Bool) → IsBoard (pull value)
