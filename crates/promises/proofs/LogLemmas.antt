@@ -21,6 +21,14 @@ use Rattle.command_line.specs.Words.{Text}
 use Rattle.promises.specs.Logs.{HoldsBoardBlock, HoldsBoardBlocks, HoldsLog, LinesAreRead}
 use Rattle.promises.proofs.RowLemmas.{rows_many}
 
+-- if one relation implies another, lists that are related in turn by the first are related in turn by the second
+each_implied : {A B : Type 0} (P Q : A → B → Type 0) → ((x : A) (y : B) → P x y → Q x y)
+    → (xs : List A) (ys : List B) → EachPair P xs ys → EachPair Q xs ys
+each_implied P Q implies [] [] each = tt
+each_implied P Q implies [] (y ∷ ys) each = absurd each
+each_implied P Q implies (x ∷ xs) [] each = absurd each
+each_implied P Q implies (x ∷ xs) (y ∷ ys) (holds, each) = (implies x y holds, each_implied P Q implies xs ys each)
+
 module _
     (are_lines : (text : List ℕ) (rows len : ℕ) (log : List (List Bool))
     → (log_rows text rows len ≡ Ok log) ↔ IsLogOf text rows len log)
@@ -64,21 +72,14 @@ module _
         is_read board (walk_row_list board) _ log rows holds
         (walk_sized board (λ walk. compare board walk rules) (counted board) rows holds.shape).rows
 
-    read_each : (board : RawBoard) → IsBoard board → (texts : List BlockText) (blocks : List Block)
-        → EachPair (HoldsBoardBlock board) texts blocks
-        → EachPair (HoldsLogRows (test_rows board) (data_bits board)) texts blocks
-    read_each board rules [] [] each = tt
-    read_each board rules [] (block ∷ blocks) each = absurd each
-    read_each board rules (text ∷ texts) [] each = absurd each
-    read_each board rules (text ∷ texts) (block ∷ blocks) (holds, each) = (
-      record {
-        words = holds.title;
-        id = holds.id;
-        log = read_test board rules (own_text text)
-            block.log holds.log;
-      },
-      read_each board rules texts blocks each,
-    )
+    block_read : (board : RawBoard) → IsBoard board → (text : BlockText) (block : Block)
+        → HoldsBoardBlock board text block
+        → HoldsLogRows (test_rows board) (data_bits board) text block
+    block_read board rules text block holds = record {
+      words = holds.title;
+      id = holds.id;
+      log = read_test board rules (own_text text) block.log holds.log;
+    }
 
     blocks_read : (board : RawBoard) → IsBoard board → (logs : Text) (blocks : List Block)
         → HoldsBoardBlocks board logs blocks
@@ -88,7 +89,8 @@ module _
           front = holds.front;
           texts = holds.texts;
           cut = holds.cut;
-          each = read_each board rules
+          each = each_implied (HoldsBoardBlock board)
+              (HoldsLogRows (test_rows board) (data_bits board)) (block_read board rules)
               holds.texts blocks holds.each;
         }
 
@@ -126,21 +128,14 @@ module _
         is_held board (walk_row_list board) (walk_rows board) log rows read
         (walk_shaped board (λ walk. compare board walk rules) (counted board) rows)
 
-    held_each : (board : RawBoard) → IsBoard board → (texts : List BlockText) (blocks : List Block)
-        → EachPair (HoldsLogRows (test_rows board) (data_bits board)) texts blocks
-        → EachPair (HoldsBoardBlock board) texts blocks
-    held_each board rules [] [] each = tt
-    held_each board rules [] (block ∷ blocks) each = absurd each
-    held_each board rules (text ∷ texts) [] each = absurd each
-    held_each board rules (text ∷ texts) (block ∷ blocks) (holds, each) = (
-      record {
-        title = holds.words;
-        id = holds.id;
-        log = held_test board rules (own_text text)
-            block.log holds.log;
-      },
-      held_each board rules texts blocks each,
-    )
+    block_held : (board : RawBoard) → IsBoard board → (text : BlockText) (block : Block)
+        → HoldsLogRows (test_rows board) (data_bits board) text block
+        → HoldsBoardBlock board text block
+    block_held board rules text block holds = record {
+      title = holds.words;
+      id = holds.id;
+      log = held_test board rules (own_text text) block.log holds.log;
+    }
 
     blocks_held : (board : RawBoard) → IsBoard board → (logs : Text) (blocks : List Block)
         → HoldsBlockLogs logs (test_rows board) (data_bits board) blocks
@@ -150,7 +145,8 @@ module _
           front = holds.front;
           texts = holds.texts;
           cut = holds.cut;
-          each = held_each board rules
+          each = each_implied (HoldsLogRows (test_rows board) (data_bits board))
+              (HoldsBoardBlock board) (block_held board rules)
               holds.texts blocks holds.each;
         }
 

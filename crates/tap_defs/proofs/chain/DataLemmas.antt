@@ -16,30 +16,30 @@ use Rattle.tap_defs.proofs.chain.ListLemmas.{cons_path, take_front, drop_front, 
 use Rattle.tap_defs.proofs.chain.MoveLemmas.{at_tap, moved_to, chain_moves, map-moved_to, dr_captures-moved_to, moved_selecting, all_in, run_moves}
 use Rattle.tap_defs.proofs.chain.RunLemmas.{run-append, tdos-append, shifts_pass}
 
+-- the part still has the properties that a data scan does not change
+abbrev SameFrame : TestLogic → PartState → PartState → Type 0
+SameFrame logic s after =
+    ◌≡◌ {A = DataFrame} (data_frame (record { logic = logic; state = after }))
+    (data_frame (record { logic = logic; state = s }))
+
+-- the part with this TAP state and this current instruction
+abbrev with_instruction : TapState → Instruction → PartState → PartState
+with_instruction t i s = record s { tap = t; current = i }
+
 -- one part after a clock in Capture-DR
 record Captures (register : List Bool) (logic : TestLogic) (s after : PartState) : Type 0 where
   register_is : data_register after ≡ register
-  frame : (◌≡◌ {A = DataFrame} (data_frame (record { logic = logic; state = after })) (data_frame (record { logic = logic; state = s })))
+  frame : SameFrame logic s after
   selecting : (after.tap ≡ ShiftDR) × (after.current ≢ Other)
 
-captures_by : (logic : TestLogic) (pins : List Bool) (free : FreeBits) (tdi : Bool) (ir : List Bool)
-    (i : Instruction) (boundary : List Bool)
-    (bypass : Bool) (code latches : List Bool) → i ≢ Other →
-    let s : PartState = record {
-      tap = CaptureDR;
-      ir = ir;
-      current = i;
-      boundary = boundary;
-      bypass = bypass;
-      identification = code;
-      latches = latches;
-    } in
-    Captures (dr_capture logic pins free i (length boundary)) logic s (part_after logic pins free false tdi s)
-captures_by logic pins free tdi ir Extest b y c l h = record { register_is = refl; frame = refl; selecting = (refl, h) }
-captures_by logic pins free tdi ir Sample b y c l h = record { register_is = refl; frame = refl; selecting = (refl, h) }
-captures_by logic pins free tdi ir Bypass b y c l h = record { register_is = refl; frame = refl; selecting = (refl, h) }
-captures_by logic pins free tdi ir Idcode b y c l h = record { register_is = refl; frame = refl; selecting = (refl, h) }
-captures_by logic pins free tdi ir Other b y c l h = absurd (h refl)
+captures_by : (logic : TestLogic) (pins : List Bool) (free : FreeBits) (tdi : Bool) (s : PartState) (i : Instruction) → i ≢ Other →
+    let w : PartState = with_instruction CaptureDR i s in
+    Captures (dr_capture logic pins free i (length s.boundary)) logic w (part_after logic pins free false tdi w)
+captures_by logic pins free tdi s Extest h = record { register_is = refl; frame = refl; selecting = (refl, h) }
+captures_by logic pins free tdi s Sample h = record { register_is = refl; frame = refl; selecting = (refl, h) }
+captures_by logic pins free tdi s Bypass h = record { register_is = refl; frame = refl; selecting = (refl, h) }
+captures_by logic pins free tdi s Idcode h = record { register_is = refl; frame = refl; selecting = (refl, h) }
+captures_by logic pins free tdi s Other h = absurd (h refl)
 
 part_captures : (logic : TestLogic) (pins : List Bool) (free : FreeBits) (tdi : Bool) (s : PartState) → s.tap ≡ CaptureDR →
     s.current ≢ Other →
@@ -48,7 +48,7 @@ part_captures logic pins free tdi s e h =
     at_tap
     (λ w. Captures (dr_capture logic pins free w.current (length w.boundary)) logic w
     (part_after logic pins free false tdi w)) CaptureDR s e
-    (captures_by logic pins free tdi s.ir s.current s.boundary s.bypass s.identification s.latches h)
+    (captures_by logic pins free tdi s s.current h)
 
 record ChainCaptures (registers : List (List Bool)) (ps after : List ChainPart) : Type 0 where
   registers_are : data_registers after ≡ registers
@@ -71,50 +71,34 @@ chain_captures (p ∷ ps) pins free tdi h =
 record Shifts (t : TapState) (logic : TestLogic) (tdi out : Bool) (s after : PartState) : Type 0 where
   register : data_register s ++ tdi ∷ [] ≡ out ∷ data_register after
   size : length (data_register after) ≡ length (data_register s)
-  frame : (◌≡◌ {A = DataFrame} (data_frame (record { logic = logic; state = after })) (data_frame (record { logic = logic; state = s })))
+  frame : SameFrame logic s after
   selecting : (after.tap ≡ t) × (after.current ≢ Other)
 
-shifts_by : (logic : TestLogic) (pins : List Bool) (free : FreeBits) (tms tdi : Bool) (ir : List Bool) (i : Instruction)
-    (boundary : List Bool) (bypass : Bool) (code latches : List Bool) → i ≢ Other →
-    let s : PartState = record {
-      tap = ShiftDR;
-      ir = ir;
-      current = i;
-      boundary = boundary;
-      bypass = bypass;
-      identification
-          = code;
-      latches = latches;
-    } in
-    Shifts (next_state ShiftDR tms) logic tdi (part_tdo free tdi s) s (part_after logic pins free tms tdi s)
-shifts_by logic pins free true tdi ir Extest b y c l h =
-    record
-    { register = shift_is b tdi; size = length-shifted b tdi; frame = refl; selecting = (refl, h) }
-shifts_by logic pins free false tdi ir Extest b y c l h =
-    record
-    { register = shift_is b tdi; size = length-shifted b tdi; frame = refl; selecting = (refl, h) }
-shifts_by logic pins free true tdi ir Sample b y c l h =
-    record
-    { register = shift_is b tdi; size = length-shifted b tdi; frame = refl; selecting = (refl, h) }
-shifts_by logic pins free false tdi ir Sample b y c l h =
-    record
-    { register = shift_is b tdi; size = length-shifted b tdi; frame = refl; selecting = (refl, h) }
-shifts_by logic pins free true tdi ir Bypass b y c l h = record { register = refl; size = refl; frame = refl; selecting = (refl, h) }
-shifts_by logic pins free false tdi ir Bypass b y c l h = record { register = refl; size = refl; frame = refl; selecting = (refl, h) }
-shifts_by logic pins free true tdi ir Idcode b y c l h =
-    record
-    { register = shift_is c tdi; size = length-shifted c tdi; frame = refl; selecting = (refl, h) }
-shifts_by logic pins free false tdi ir Idcode b y c l h =
-    record
-    { register = shift_is c tdi; size = length-shifted c tdi; frame = refl; selecting = (refl, h) }
-shifts_by logic pins free tms tdi ir Other b y c l h = absurd (h refl)
+shifts_by : (logic : TestLogic) (pins : List Bool) (free : FreeBits) (tms tdi : Bool) (s : PartState) (i : Instruction) → i ≢ Other →
+    let w : PartState = with_instruction ShiftDR i s in
+    Shifts (next_state ShiftDR tms) logic tdi (part_tdo free tdi w) w (part_after logic pins free tms tdi w)
+shifts_by logic pins free true tdi s Extest h =
+    record { register = shift_is s.boundary tdi; size = length-shifted s.boundary tdi; frame = refl; selecting = (refl, h) }
+shifts_by logic pins free false tdi s Extest h =
+    record { register = shift_is s.boundary tdi; size = length-shifted s.boundary tdi; frame = refl; selecting = (refl, h) }
+shifts_by logic pins free true tdi s Sample h =
+    record { register = shift_is s.boundary tdi; size = length-shifted s.boundary tdi; frame = refl; selecting = (refl, h) }
+shifts_by logic pins free false tdi s Sample h =
+    record { register = shift_is s.boundary tdi; size = length-shifted s.boundary tdi; frame = refl; selecting = (refl, h) }
+shifts_by logic pins free true tdi s Bypass h = record { register = refl; size = refl; frame = refl; selecting = (refl, h) }
+shifts_by logic pins free false tdi s Bypass h = record { register = refl; size = refl; frame = refl; selecting = (refl, h) }
+shifts_by logic pins free true tdi s Idcode h =
+    record { register = shift_is s.identification tdi; size = length-shifted s.identification tdi; frame = refl; selecting = (refl, h) }
+shifts_by logic pins free false tdi s Idcode h =
+    record { register = shift_is s.identification tdi; size = length-shifted s.identification tdi; frame = refl; selecting = (refl, h) }
+shifts_by logic pins free tms tdi s Other h = absurd (h refl)
 
 part_shifts : (logic : TestLogic) (pins : List Bool) (free : FreeBits) (tms tdi : Bool) (s : PartState) → s.tap ≡ ShiftDR →
     s.current ≢ Other →
     Shifts (next_state ShiftDR tms) logic tdi (part_tdo free tdi s) s (part_after logic pins free tms tdi s)
 part_shifts logic pins free tms tdi s e h =
     at_tap (λ w. Shifts (next_state ShiftDR tms) logic tdi (part_tdo free tdi w) w (part_after logic pins free tms tdi w)) ShiftDR s e
-    (shifts_by logic pins free tms tdi s.ir s.current s.boundary s.bypass s.identification s.latches h)
+    (shifts_by logic pins free tms tdi s s.current h)
 
 -- the chain after a clock in Shift-DR; its joined registers are one shift register
 record ChainShifts (t : TapState) (tdi out : Bool) (ps after : List ChainPart) : Type 0 where
@@ -175,33 +159,23 @@ all_shifts wiring b (c ∷ bits) choices ps h =
 -- a part that enters Update-DR
 record Updates (logic : TestLogic) (s after : PartState) : Type 0 where
   held : held_bits after ≡ data_register s
-  frame : (◌≡◌ {A = DataFrame} (data_frame (record { logic = logic; state = after })) (data_frame (record { logic = logic; state = s })))
+  frame : SameFrame logic s after
   selecting : (after.tap ≡ UpdateDR) × (after.current ≢ Other)
 
-updates_by : (logic : TestLogic) (pins : List Bool) (free : FreeBits) (tdi : Bool) (ir : List Bool) (i : Instruction) (boundary : List Bool)
-    (bypass : Bool) (code latches : List Bool) → i ≢ Other →
-    let s : PartState = record {
-      tap = Exit1DR;
-      ir = ir;
-      current = i;
-      boundary = boundary;
-      bypass = bypass;
-      identification
-          = code;
-      latches = latches;
-    } in
-    Updates logic s (part_after logic pins free true tdi s)
-updates_by logic pins free tdi ir Extest b y c l h = record { held = refl; frame = refl; selecting = (refl, h) }
-updates_by logic pins free tdi ir Sample b y c l h = record { held = refl; frame = refl; selecting = (refl, h) }
-updates_by logic pins free tdi ir Bypass b y c l h = record { held = refl; frame = refl; selecting = (refl, h) }
-updates_by logic pins free tdi ir Idcode b y c l h = record { held = refl; frame = refl; selecting = (refl, h) }
-updates_by logic pins free tdi ir Other b y c l h = absurd (h refl)
+updates_by : (logic : TestLogic) (pins : List Bool) (free : FreeBits) (tdi : Bool) (s : PartState) (i : Instruction) → i ≢ Other →
+    let w : PartState = with_instruction Exit1DR i s in
+    Updates logic w (part_after logic pins free true tdi w)
+updates_by logic pins free tdi s Extest h = record { held = refl; frame = refl; selecting = (refl, h) }
+updates_by logic pins free tdi s Sample h = record { held = refl; frame = refl; selecting = (refl, h) }
+updates_by logic pins free tdi s Bypass h = record { held = refl; frame = refl; selecting = (refl, h) }
+updates_by logic pins free tdi s Idcode h = record { held = refl; frame = refl; selecting = (refl, h) }
+updates_by logic pins free tdi s Other h = absurd (h refl)
 
 part_updates : (logic : TestLogic) (pins : List Bool) (free : FreeBits) (tdi : Bool) (s : PartState) → s.tap ≡ Exit1DR → s.current ≢ Other →
     Updates logic s (part_after logic pins free true tdi s)
 part_updates logic pins free tdi s e h =
     at_tap (λ w. Updates logic w (part_after logic pins free true tdi w)) Exit1DR s e
-    (updates_by logic pins free tdi s.ir s.current s.boundary s.bypass s.identification s.latches h)
+    (updates_by logic pins free tdi s s.current h)
 
 record ChainUpdates (ps after : List ChainPart) : Type 0 where
   held : all_held after ≡ data_registers ps
