@@ -250,7 +250,7 @@ static ROWS: [Failing; 5] = [
         Table {
             name: "words",
             texts: &[],
-            rows: Rows::Words("cover c n drv", " rcv", &WORDS),
+            rows: Rows::Words(&["cover c n drv"], " rcv", &WORDS),
         },
         1,
         Status::Refused,

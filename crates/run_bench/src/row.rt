@@ -91,8 +91,9 @@ pub enum Rows {
     Boards(&'static [Case]),
     /// Command lines that are not valid. The first read would fail, so the rows show that btest reads nothing.
     NoCommands(&'static [&'static str]),
-    /// A command line, a word with a space before it, and counts. For each count, the line runs with the word appended this many times.
-    Words(&'static str, &'static str, &'static [(usize, Ending<'static>)]),
+    /// Command lines, a word with a space before it, and numbers. For each number, each line is run with the word appended this many
+    /// times.
+    Words(&'static [&'static str], &'static str, &'static [(usize, Ending<'static>)]),
 }
 
 /// Rows of one kind, with a name and common texts.
@@ -169,7 +170,7 @@ fn table_holds(rt: &(impl Threads + Sync), alloc: Global, table: &Table) -> Resu
         Rows::Devices(text, rows) => devices_hold(rt, alloc, table, text, rows),
         Rows::Boards(rows) => boards_hold(rt, alloc, table, rows),
         Rows::NoCommands(lines) => no_commands_hold(rt, alloc, table, lines),
-        Rows::Words(line, word, rows) => words_hold(rt, alloc, table, line, word, rows),
+        Rows::Words(lines, word, rows) => words_hold(rt, alloc, table, lines, word, rows),
     }
 }
 
@@ -338,14 +339,17 @@ fn words_hold(
     rt: &(impl Threads + Sync),
     alloc: Global,
     table: &Table,
-    line: &str,
+    lines: &[&'static str],
     word: &str,
     rows: &[(usize, Ending<'static>)],
 ) -> Result<(), RowFault> {
     for (i, (count, ending)) in rows.iter().enumerate() {
-        let mut bench = bench_of(alloc, table)?;
-        let words = format!(in alloc; "{line}{}", word.repeat(alloc, *count)?)?;
-        bench.ends(rt, table.name, i, &words, *ending)?;
+        let words = word.repeat(alloc, *count)?;
+        for line in lines {
+            let mut bench = bench_of(alloc, table)?;
+            let line = format!(in alloc; "{line}{words}")?;
+            bench.ends(rt, table.name, i, &line, *ending)?;
+        }
     }
     Ok(())
 }
