@@ -64,6 +64,7 @@ impl Plan {
     }
 
     /// Returns the driver that a pass enables on a net, if there is one. No pass enables two drivers of a net.
+    #[inline]
     pub fn driver(&self, pass: &Setting, net: u32) -> Option<NetDriver>
         ensures { result ≡ enabled_on self.now.nets (holds pass.now) net }
     {
