@@ -1,5 +1,5 @@
-//! Laws of boards that keep the rules of boards. Each function does nothing, and its contract is the law. A function
-//! whose proof needs a law calls that function.
+//! Laws of boards. Each law is the contract of a function that does nothing. A function whose proof needs a law calls
+//! the function of the law.
 ghost use Rattle.std.specs.Prelude.{◌≡◌, ℕ, ◌<◌, List, Some, slice_get};
 ghost use Rattle.board_defs.specs.declared.board.Ctl.{Ctl};
 ghost use Rattle.board_defs.specs.declared.board.RawBoard.{RawBoard};

@@ -6,7 +6,7 @@ use Rattle.board_files.specs.declared.chain_file.ChainLine.{ChainLine}
 use Rattle.board_files.specs.declared.net_file.NetLine.{NetLine}
 use Rattle.board_files.specs.ChainLines.{HasBypassLength}
 
--- the line has fewer than 2^32 words: `NET`, the name, and the pins
+-- The line has fewer than 2^32 words: `NET`, the name of the net, and the pins.
 abbrev pub HasFewPins : NetLine → Type 0
 HasFewPins line = length line.pins ≤ 2 ^ 32 - 3
 

@@ -99,6 +99,8 @@ text_piece digits from count within =
 max_below : (a b : ℕ) → nat_lt (max a b) 16 ≡ (nat_lt b 16 && nat_lt a 16)
 max_below a b = grind arith
 
+-- A text is read from its last digit to its first. So the bits of the digit at `at` come after the
+-- bits of the digits that were read before it.
 read_more : (text : List ℕ) (at : ℕ) (digits : List ℕ) (x : ℕ) → at < length text
     → text_bits (drop (suc at) text) ≡ Some (bits_of digits)
     → digit_bits (get_or text at 0) ≡ Some (bits_of (x ∷ []))

@@ -6,8 +6,8 @@ ghost use Rattle.coverage_list.specs.CoverList.{IsCoverList};
 
 use board_defs::law::terms_decided;
 
-/// All that a board's coverage list says about nets, pins and pairs of nets is true over all safe settings of the
-/// board. The board must keep the rules of boards.
+/// The coverage list of a board is true of all safe settings of the board. It lists each net that is not covered. Of the covered nets it
+/// lists each untested pin and each pair that is not paired. It lists nothing else.
 pub fn lists_are_true()
     ensures { (board : RawBoard) → IsBoard board → IsCoverList board (cover_text board) }
 {

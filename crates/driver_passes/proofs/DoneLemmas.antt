@@ -91,6 +91,8 @@ done_now board useful passes after a b first second e =
     by_test false shown None h = inr h
     by_test false shown (Some pair) h = inl (list_any_last p passes (pair_pass board useful pair) (made pair h))
 
+-- A net is done if it needs no pass with any later net. If the nets before net `a` are done, and so is net `a`, the nets before net `a + 1`
+-- are done.
 pub done_next : (board : RawBoard) (passes : List (List Ctl)) (a : ℕ) → AreDone board passes a
     → IsDoneTo board passes a (length board.nets) → AreDone board passes (a + 1)
 done_next board passes a are done m less = by_net (cases_eq m a)

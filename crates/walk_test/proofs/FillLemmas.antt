@@ -80,7 +80,7 @@ module _ (board : RawBoard) (plan : PlanTables) (p : IsPlanOf board plan) where
       mask_laid board (scan_of_pass board plan 0 1)
       ∙ sym (mask_laid board (record { now = quiet_row; before = first_row board plan }))
 
--- the nets and the cells of a walk, which follow from the pins of the board's nets
+-- The nets of a walk and their cells. The code finds them in the tables of the board's pins.
 module _ (board : RawBoard) (rules : IsBoard board) (pins : NetPins) (p : AreNetPins board pins) (walk : List Ctl) where
   pub observer_is : (n : ℕ) (net : Net) → slice_get board.nets n ≡ Some net
       → Observed board (holds walk) net (observer_on pins.nets (holds walk) n)

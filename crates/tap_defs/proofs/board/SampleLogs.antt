@@ -217,7 +217,7 @@ short_row h = let z : ◌≡◌ {A = ℕ} 3 4 = h.bits 1 [] (omega arith) in abs
 unexplained : (faults : FaultSet) → ExplainedBy two_nets faults (svf_row_scans two_nets) [] → ⊥
 unexplained faults h = no_rows h.shape
 
--- A net that is pulled up, with a driver that drives only 0. If the driver is open, the net has its pull.
+-- A net that is pulled up, with a driver that drives only low. If the driver's pin is open, the net has the value of its pull.
 abbrev pulled_net : RawBoard
 pulled_net = record {
   chain = named_part (codes "U1") od ∷ named_part (codes "U2") rcv1 ∷ [];
