@@ -1,10 +1,9 @@
 // Checks the rules on a board's files, in the order of the definitions. A driver is always on if its
 // cell has no control.
 ghost use Rattle.std.specs.Prelude.{◌≡◌, ◌<◌, ◌≤◌, ◌^◌, ◌==◌, ◌&&◌, length, vec_len, map, filter, find, nat_lt, sum_by, slice_index_or, IfOk, Option, Some, None, option_map, is_none, true, false, if◌then◌else◌};
-ghost use Rattle.std.specs.List.{list_any};
 ghost use Rattle.board_defs.specs.Limits.{most_parts, most_pins};
 ghost use Rattle.first_places.specs.Places.{first_repeated, once};
-ghost use Rattle.board_defs.specs.Pins.{data_length, is_test_pin};
+ghost use Rattle.board_defs.specs.Pins.{data_length};
 ghost use Rattle.board_lines.specs.declared.fault.BoardFault.TheVariants.{Limit as LimitFault, NoPin, PinTwice, GuardedDriver, TwoAlwaysOn};
 ghost use Rattle.board_lines.specs.declared.limit.Limit.TheVariants.{Pins};
 ghost use Rattle.board_lines.specs.BoardLimits.{limit_number};
@@ -15,7 +14,7 @@ ghost use Rattle.board_build.specs.inner.Marked.{always_on, file_fault, marked_d
 use crate::marked::MarkedWord;
 use crate::selected_chain::SelectedChain;
 use crate::standing::StandingWords;
-use board_defs::{MOST_BITS, MOST_NETS, MOST_PINS, Net, NetPin, Part, RawBoard, Spot};
+use board_defs::{MOST_BITS, MOST_NETS, MOST_PINS, Net, Part, RawBoard, Spot};
 use board_lines::{BoardFault, Limit, PinName, line_fault};
 use first_places::{first_repeated, once_by};
 use lists::is_set;

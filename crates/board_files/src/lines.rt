@@ -1,5 +1,5 @@
 // Reads a file line by line, up to its first faulty line.
-ghost use Rattle.std.specs.Prelude.{◌≡◌, ◌<◌, ◌≤◌, ◌^◌, ℕ, List, Result, map, length, vec_len, IfOk, Some};
+ghost use Rattle.std.specs.Prelude.{◌<◌, ◌≤◌, ◌^◌, ℕ, List, Result, map, length, vec_len, IfOk, Some};
 ghost use Rattle.text_lines.specs.Words.{Word};
 ghost use Rattle.board_files.specs.declared.fault.LineFault.{LineFault};
 ghost use Rattle.board_files.specs.Reading.{ReadsLines, lines_of_text};

@@ -3,7 +3,6 @@ use Rattle.std.proofs.Common.{◌≡◌, Bool, true, false, List, [], ◌∷◌,
 use Rattle.std.specs.Prelude.{ℕ, codes}
 use Rattle.std.specs.List.{flat_map}
 use Rattle.std.specs.Fmt.{digits}
-use Rattle.board_defs.specs.declared.board.NetPin.{NetPin}
 use Rattle.board_defs.specs.declared.board.RawBoard.{RawBoard}
 use Rattle.board_defs.proofs.Samples.{rcv, ts, bi, two, od, pin, foreign, net, board, crossing, shared, pull}
 use Rattle.coverage_list.specs.CoverText.{cover_text}

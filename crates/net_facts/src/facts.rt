@@ -6,7 +6,7 @@ ghost use Rattle.board_defs.specs.Decided.{is_always_on};
 ghost use Rattle.net_facts.specs.Facts.{net_facts_of};
 ghost use Rattle.net_facts.specs.inner.Facts.{drive_from, drive_where_in, net_facts_in, pin_facts_in};
 
-use board_defs::{Cell, Ctl, Drive, Net, NetPin, PinAt, RawBoard};
+use board_defs::{Cell, Ctl, Drive, Net, NetPin, PinAt};
 use few_items::Few;
 use net_pins::BoardPins;
 use std::alloc::{AllocError, Global};
