@@ -1,8 +1,8 @@
 -- Lemmas about commands with their texts.
 use Rattle.std.proofs.Common.{◌≡◌, ℕ, List, [], ◌∷◌, length, Option, Some, None, refl, subst, arith}
 use Rattle.command_line.specs.declared.command.Command.TheVariants.{Chain, Ident, Device, Cover, Svf, Walk, Make, Diagnose, Groups, Batch}
-use Rattle.command_line.specs.Words.{Text, BoardNames, ChainNames, Command, names_in_command}
-use Rattle.commands.specs.Requests.{Request, board_texts, chain_texts, request_of}
+use Rattle.command_line.specs.Words.{Text, BoardNames, ChainNames, LogNames, Command, names_in_command}
+use Rattle.commands.specs.Requests.{Request, board_texts, chain_texts, log_texts, request_of}
 
 pub same_request : {a b : Request} → ◌≡◌ {A = Option Request} (Some a) (Some b) → a ≡ b
 same_request e = cc
@@ -24,17 +24,17 @@ module _ (P : Command → List Text → Request → Type 0)
     (of_walk : (names : BoardNames) (chain nets : Text) (bsdl : List Text)
     → P (Walk names) (chain ∷ nets ∷ bsdl) (Walk (board_texts chain nets bsdl)))
     (of_make : (parts : ℕ) (texts : List Text) → P (Make parts) texts (Make parts))
-    (of_diagnose : (workers : ℕ) (name : Text) (names : BoardNames) (log chain nets : Text)
+    (of_diagnose : (workers : ℕ) (names : LogNames) (log chain nets : Text)
     (bsdl : List Text)
-    → P (Diagnose workers name names) (log ∷ chain ∷ nets ∷ bsdl)
-    (Diagnose workers log (board_texts chain nets bsdl)))
-    (of_groups : (name : Text) (names : BoardNames) (log chain nets : Text) (bsdl : List Text)
-    → P (Groups name names) (log ∷ chain ∷ nets ∷ bsdl)
-    (Groups log (board_texts chain nets bsdl)))
-    (of_batch : (workers : ℕ) (name : Text) (names : BoardNames) (log chain nets : Text)
+    → P (Diagnose workers names) (log ∷ chain ∷ nets ∷ bsdl)
+    (Diagnose workers (log_texts log chain nets bsdl)))
+    (of_groups : (names : LogNames) (log chain nets : Text) (bsdl : List Text)
+    → P (Groups names) (log ∷ chain ∷ nets ∷ bsdl)
+    (Groups (log_texts log chain nets bsdl)))
+    (of_batch : (workers : ℕ) (names : LogNames) (log chain nets : Text)
     (bsdl : List Text)
-    → P (Batch workers name names) (log ∷ chain ∷ nets ∷ bsdl)
-    (Batch workers log (board_texts chain nets bsdl))) where
+    → P (Batch workers names) (log ∷ chain ∷ nets ∷ bsdl)
+    (Batch workers (log_texts log chain nets bsdl))) where
   pub by_request : (command : Command) (texts : List Text) (made : Request) → request_of command texts ≡ Some made → P command texts made
   by_request (Chain names) [] made e = absurd (none_made e)
   by_request (Chain names) (chain ∷ bsdl) made e = subst (P (Chain names) (chain ∷ bsdl)) (same_request e) (of_chain names chain bsdl)
@@ -57,24 +57,24 @@ module _ (P : Command → List Text → Request → Type 0)
   by_request (Walk names) (chain ∷ nets ∷ bsdl) made e =
       subst (P (Walk names) (chain ∷ nets ∷ bsdl)) (same_request e) (of_walk names chain nets bsdl)
   by_request (Make parts) texts made e = subst (P (Make parts) texts) (same_request e) (of_make parts texts)
-  by_request (Diagnose workers name names) [] made e = absurd (none_made e)
-  by_request (Diagnose workers name names) (log ∷ []) made e = absurd (none_made e)
-  by_request (Diagnose workers name names) (log ∷ chain ∷ []) made e = absurd (none_made e)
-  by_request (Diagnose workers name names) (log ∷ chain ∷ nets ∷ bsdl) made e =
-      subst (P (Diagnose workers name names) (log ∷ chain ∷ nets ∷ bsdl)) (same_request e)
-      (of_diagnose workers name names log chain nets bsdl)
-  by_request (Groups name names) [] made e = absurd (none_made e)
-  by_request (Groups name names) (log ∷ []) made e = absurd (none_made e)
-  by_request (Groups name names) (log ∷ chain ∷ []) made e = absurd (none_made e)
-  by_request (Groups name names) (log ∷ chain ∷ nets ∷ bsdl) made e =
-      subst (P (Groups name names) (log ∷ chain ∷ nets ∷ bsdl)) (same_request e)
-      (of_groups name names log chain nets bsdl)
-  by_request (Batch workers name names) [] made e = absurd (none_made e)
-  by_request (Batch workers name names) (log ∷ []) made e = absurd (none_made e)
-  by_request (Batch workers name names) (log ∷ chain ∷ []) made e = absurd (none_made e)
-  by_request (Batch workers name names) (log ∷ chain ∷ nets ∷ bsdl) made e =
-      subst (P (Batch workers name names) (log ∷ chain ∷ nets ∷ bsdl)) (same_request e)
-      (of_batch workers name names log chain nets bsdl)
+  by_request (Diagnose workers names) [] made e = absurd (none_made e)
+  by_request (Diagnose workers names) (log ∷ []) made e = absurd (none_made e)
+  by_request (Diagnose workers names) (log ∷ chain ∷ []) made e = absurd (none_made e)
+  by_request (Diagnose workers names) (log ∷ chain ∷ nets ∷ bsdl) made e =
+      subst (P (Diagnose workers names) (log ∷ chain ∷ nets ∷ bsdl)) (same_request e)
+      (of_diagnose workers names log chain nets bsdl)
+  by_request (Groups names) [] made e = absurd (none_made e)
+  by_request (Groups names) (log ∷ []) made e = absurd (none_made e)
+  by_request (Groups names) (log ∷ chain ∷ []) made e = absurd (none_made e)
+  by_request (Groups names) (log ∷ chain ∷ nets ∷ bsdl) made e =
+      subst (P (Groups names) (log ∷ chain ∷ nets ∷ bsdl)) (same_request e)
+      (of_groups names log chain nets bsdl)
+  by_request (Batch workers names) [] made e = absurd (none_made e)
+  by_request (Batch workers names) (log ∷ []) made e = absurd (none_made e)
+  by_request (Batch workers names) (log ∷ chain ∷ []) made e = absurd (none_made e)
+  by_request (Batch workers names) (log ∷ chain ∷ nets ∷ bsdl) made e =
+      subst (P (Batch workers names) (log ∷ chain ∷ nets ∷ bsdl)) (same_request e)
+      (of_batch workers names log chain nets bsdl)
 
 -- The command and these texts make a request. They do if there are as many texts as the command has file names.
 abbrev pub MakesRequest : Command → List Text → Type 0
@@ -98,15 +98,15 @@ some_request (Walk names) [] count = absurd (omega (arith, count))
 some_request (Walk names) (chain ∷ []) count = absurd (omega (arith, count))
 some_request (Walk names) (chain ∷ nets ∷ bsdl) count = (Walk (board_texts chain nets bsdl), refl)
 some_request (Make parts) texts count = (Make parts, refl)
-some_request (Diagnose workers name names) [] count = absurd (omega (arith, count))
-some_request (Diagnose workers name names) (log ∷ []) count = absurd (omega (arith, count))
-some_request (Diagnose workers name names) (log ∷ chain ∷ []) count = absurd (omega (arith, count))
-some_request (Diagnose workers name names) (log ∷ chain ∷ nets ∷ bsdl) count = (Diagnose workers log (board_texts chain nets bsdl), refl)
-some_request (Groups name names) [] count = absurd (omega (arith, count))
-some_request (Groups name names) (log ∷ []) count = absurd (omega (arith, count))
-some_request (Groups name names) (log ∷ chain ∷ []) count = absurd (omega (arith, count))
-some_request (Groups name names) (log ∷ chain ∷ nets ∷ bsdl) count = (Groups log (board_texts chain nets bsdl), refl)
-some_request (Batch workers name names) [] count = absurd (omega (arith, count))
-some_request (Batch workers name names) (log ∷ []) count = absurd (omega (arith, count))
-some_request (Batch workers name names) (log ∷ chain ∷ []) count = absurd (omega (arith, count))
-some_request (Batch workers name names) (log ∷ chain ∷ nets ∷ bsdl) count = (Batch workers log (board_texts chain nets bsdl), refl)
+some_request (Diagnose workers names) [] count = absurd (omega (arith, count))
+some_request (Diagnose workers names) (log ∷ []) count = absurd (omega (arith, count))
+some_request (Diagnose workers names) (log ∷ chain ∷ []) count = absurd (omega (arith, count))
+some_request (Diagnose workers names) (log ∷ chain ∷ nets ∷ bsdl) count = (Diagnose workers (log_texts log chain nets bsdl), refl)
+some_request (Groups names) [] count = absurd (omega (arith, count))
+some_request (Groups names) (log ∷ []) count = absurd (omega (arith, count))
+some_request (Groups names) (log ∷ chain ∷ []) count = absurd (omega (arith, count))
+some_request (Groups names) (log ∷ chain ∷ nets ∷ bsdl) count = (Groups (log_texts log chain nets bsdl), refl)
+some_request (Batch workers names) [] count = absurd (omega (arith, count))
+some_request (Batch workers names) (log ∷ []) count = absurd (omega (arith, count))
+some_request (Batch workers names) (log ∷ chain ∷ []) count = absurd (omega (arith, count))
+some_request (Batch workers names) (log ∷ chain ∷ nets ∷ bsdl) count = (Batch workers (log_texts log chain nets bsdl), refl)

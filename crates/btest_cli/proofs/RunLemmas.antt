@@ -19,7 +19,7 @@ use Rattle.board_gen.specs.DeviceText.{bsdl_text}
 use Rattle.commands.specs.Summary.{summary_text}
 use Rattle.btest_core.specs.IdentsRead.{AreIdents}
 use Rattle.command_line.specs.declared.command.Command.TheVariants.{Chain, Ident, Device, Cover, Svf, Walk, Make, Diagnose, Groups, Batch}
-use Rattle.command_line.specs.Words.{Text, Command, board_names, chain_names, names_in_command}
+use Rattle.command_line.specs.Words.{Text, LogNames, Command, board_names, chain_names, log_names, names_in_command}
 use Rattle.commands.specs.Requests.{Request}
 use Rattle.commands.specs.Answers.{IsBoardOf, IsJudgedOf}
 use Rattle.btest_cli.specs.declared.status.Status.{Status}
@@ -28,7 +28,7 @@ use Rattle.btest_cli.specs.declared.failure.Unread.{Unread}
 use Rattle.btest_cli.specs.declared.failure.Unread.TheVariants as unread
 use Rattle.commands.specs.declared.unput.Unput.{Unput}
 use Rattle.commands.specs.declared.unput.Unput.TheVariants as unput
-use Rattle.btest_cli.specs.Texts.{Held, Wanted, Reading, Read, TooLong, IsRead, IsReadUpTo, Asks, AsksFor, names_in, text_called, wanted_of, known_reading, reading_of, read_first, and_text}
+use Rattle.btest_cli.specs.Texts.{Held, Wanted, Reading, Read, TooLong, IsRead, IsReadUpTo, Asks, AsksFor, names_in, logs_wanted, text_called, wanted_of, known_reading, reading_of, read_first, and_text}
 use Rattle.board_defs.specs.declared.fault.Single.{Single}
 use Rattle.board_defs.specs.BoardRules.{IsBoard}
 use Rattle.fault_sim.specs.Diagnosis.{IsDiagnosis}
@@ -56,6 +56,9 @@ pub names_wanted : (names : List Text) → names_in (map text_called names) ≡ 
 names_wanted [] = refl
 names_wanted (name ∷ names) = ap (λ (l : List Text). name ∷ l) (names_wanted names)
 
+names_of_logs : (names : LogNames) → names_in (logs_wanted names) ≡ log_names names
+names_of_logs names = ap (λ (l : List Text). names.log ∷ l) (names_wanted (board_names names.board))
+
 pub wanted_names : (command : Command) → names_in (wanted_of command) ≡ names_in_command command
 wanted_names (Chain names) = names_wanted (chain_names names)
 wanted_names (Ident names) = names_wanted (chain_names names)
@@ -64,9 +67,9 @@ wanted_names (Cover names) = names_wanted (board_names names)
 wanted_names (Svf names) = names_wanted (board_names names)
 wanted_names (Walk names) = names_wanted (board_names names)
 wanted_names (Make parts) = refl
-wanted_names (Diagnose workers log names) = ap (λ (l : List Text). log ∷ l) (names_wanted (board_names names))
-wanted_names (Groups log names) = ap (λ (l : List Text). log ∷ l) (names_wanted (board_names names))
-wanted_names (Batch workers log names) = ap (λ (l : List Text). log ∷ l) (names_wanted (board_names names))
+wanted_names (Diagnose workers names) = names_of_logs names
+wanted_names (Groups names) = names_of_logs names
+wanted_names (Batch workers names) = names_of_logs names
 
 pub all_asked : (command : Command) (asked asked' : List Text)
     → Asks asked asked' (names_in (wanted_of command)) → Asks asked asked' (names_in_command command)
@@ -551,18 +554,15 @@ module _ (devices : OneDevice) (chains : OneChain) (idents : OneIdents) (boards 
       one_said summary_text (input_fault_line names)
       (IsBoardRead (made.chain_file_text parts) (made.net_text parts) (bsdl_text ∷ [])) a b
       (boards (made.chain_file_text parts) (made.net_text parts) (bsdl_text ∷ [])) is_a is_b
-  one_given names (Diagnose workers log board) a b is_a is_b =
-      one_said diagnosis_text (text_fault_line names)
-      (IsJudgedOf diagnosing (record { log = log; board = board })) a b
-      (logs.diagnoses log board.chain board.nets board.bsdl) is_a is_b
-  one_given names (Groups log board) a b is_a is_b =
-      one_said grouping_text (text_fault_line names)
-      (IsJudgedOf grouping (record { log = log; board = board })) a b
-      (logs.groups log board.chain board.nets board.bsdl) is_a is_b
-  one_given names (Batch workers log board) a b is_a is_b =
-      one_said verdicts_text (text_fault_line names)
-      (IsJudgedOf judging_each (record { log = log; board = board })) a b
-      (logs.each log board.chain board.nets board.bsdl) is_a is_b
+  one_given names (Diagnose workers texts) a b is_a is_b =
+      one_said diagnosis_text (text_fault_line names) (IsJudgedOf diagnosing texts) a b
+      (logs.diagnoses texts.log texts.board.chain texts.board.nets texts.board.bsdl) is_a is_b
+  one_given names (Groups texts) a b is_a is_b =
+      one_said grouping_text (text_fault_line names) (IsJudgedOf grouping texts) a b
+      (logs.groups texts.log texts.board.chain texts.board.nets texts.board.bsdl) is_a is_b
+  one_given names (Batch workers texts) a b is_a is_b =
+      one_said verdicts_text (text_fault_line names) (IsJudgedOf judging_each texts) a b
+      (logs.each texts.log texts.board.chain texts.board.nets texts.board.bsdl) is_a is_b
 
   pub one_outcome : OneOutcome
   one_outcome command (TooLong wanted) a b is_a is_b = is_a ∙ sym is_b
@@ -723,18 +723,15 @@ module _ (devices : SomeDevice) (chains : SomeChain) (idents : SomeIdents) (boar
       some_said summary_text (input_fault_line names)
       (IsBoardRead (made.chain_file_text parts) (made.net_text parts) (bsdl_text ∷ []))
       (boards (made.chain_file_text parts) (made.net_text parts) (bsdl_text ∷ []))
-  some_given names (Diagnose workers log board) =
-      some_said diagnosis_text (text_fault_line names)
-      (IsJudgedOf diagnosing (record { log = log; board = board }))
-      (logs.diagnoses log board.chain board.nets board.bsdl)
-  some_given names (Groups log board) =
-      some_said grouping_text (text_fault_line names)
-      (IsJudgedOf grouping (record { log = log; board = board }))
-      (logs.groups log board.chain board.nets board.bsdl)
-  some_given names (Batch workers log board) =
-      some_said verdicts_text (text_fault_line names)
-      (IsJudgedOf judging_each (record { log = log; board = board }))
-      (logs.each log board.chain board.nets board.bsdl)
+  some_given names (Diagnose workers texts) =
+      some_said diagnosis_text (text_fault_line names) (IsJudgedOf diagnosing texts)
+      (logs.diagnoses texts.log texts.board.chain texts.board.nets texts.board.bsdl)
+  some_given names (Groups texts) =
+      some_said grouping_text (text_fault_line names) (IsJudgedOf grouping texts)
+      (logs.groups texts.log texts.board.chain texts.board.nets texts.board.bsdl)
+  some_given names (Batch workers texts) =
+      some_said verdicts_text (text_fault_line names) (IsJudgedOf judging_each texts)
+      (logs.each texts.log texts.board.chain texts.board.nets texts.board.bsdl)
 
   pub some_outcome : SomeOutcome
   some_outcome command held (TooLong wanted) known = (Err (long_line wanted.name wanted.limit), refl)

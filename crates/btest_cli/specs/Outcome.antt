@@ -45,15 +45,9 @@ IsGiven names (Walk texts) outcome = IsSaid board_walk_text (input_fault_line na
 IsGiven names (Make parts) outcome =
     IsSaid summary_text (input_fault_line names)
     (IsBoardRead (made.chain_file_text parts) (made.net_text parts) (bsdl_text ∷ [])) outcome
-IsGiven names (Diagnose workers log board) outcome =
-    IsSaid diagnosis_text (text_fault_line names)
-    (IsJudgedOf diagnosing (record { log = log; board = board })) outcome
-IsGiven names (Groups log board) outcome =
-    IsSaid grouping_text (text_fault_line names)
-    (IsJudgedOf grouping (record { log = log; board = board })) outcome
-IsGiven names (Batch workers log board) outcome =
-    IsSaid verdicts_text (text_fault_line names)
-    (IsJudgedOf judging_each (record { log = log; board = board })) outcome
+IsGiven names (Diagnose workers texts) outcome = IsSaid diagnosis_text (text_fault_line names) (IsJudgedOf diagnosing texts) outcome
+IsGiven names (Groups texts) outcome = IsSaid grouping_text (text_fault_line names) (IsJudgedOf grouping texts) outcome
+IsGiven names (Batch workers texts) outcome = IsSaid verdicts_text (text_fault_line names) (IsJudgedOf judging_each texts) outcome
 
 -- `outcome` is the outcome of a command for the texts that were read. If a text is too long, the outcome is the line for this text.
 abbrev pub IsOutcome : Command → Reading → Result Text Text → Type 0

@@ -24,6 +24,6 @@ roles_of (Svf names) = board_roles [] names
 roles_of (Walk names) = board_roles [] names
 roles_of (Ident names) = record { log = []; chain = names.chain; nets = []; bsdl = names.bsdl }
 roles_of (Make number) = record { log = []; chain = codes "chain"; nets = codes "nets"; bsdl = codes "bsdl" ∷ [] }
-roles_of (Diagnose workers log names) = board_roles log names
-roles_of (Groups log names) = board_roles log names
-roles_of (Batch workers log names) = board_roles log names
+roles_of (Diagnose workers names) = board_roles names.log names.board
+roles_of (Groups names) = board_roles names.log names.board
+roles_of (Batch workers names) = board_roles names.log names.board

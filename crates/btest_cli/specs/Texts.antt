@@ -1,7 +1,7 @@
 -- The texts that a command reads.
 use Rattle.std.specs.Prelude.{◌≡◌, ℕ, ◌<◌, List, [], ◌∷◌, ◌++◌, length, map, Option, Some, None, nat_lt, if◌then◌else◌}
 use Rattle.command_line.specs.declared.command.Command.TheVariants.{Diagnose, Groups, Batch}
-use Rattle.command_line.specs.Words.{Text, Command, board_names, names_in_command}
+use Rattle.command_line.specs.Words.{Text, LogNames, Command, board_names, names_in_command}
 
 -- a text to read: its name, and the largest number of bytes that it may have
 pub record Wanted : Type 0 where
@@ -16,11 +16,15 @@ text_called name = record { name = name; limit = 4194304 }
 abbrev pub wanted_log : Text → Wanted
 wanted_log name = record { name = name; limit = 67108864 }
 
+-- a file of response logs with these names, and then the files of its board
+abbrev pub logs_wanted : LogNames → List Wanted
+logs_wanted names = wanted_log names.log ∷ map text_called (board_names names.board)
+
 -- the texts that a command reads, in the order in which it reads them
 abbrev pub wanted_of : Command → List Wanted
-wanted_of (Diagnose workers log names) = wanted_log log ∷ map text_called (board_names names)
-wanted_of (Groups log names) = wanted_log log ∷ map text_called (board_names names)
-wanted_of (Batch workers log names) = wanted_log log ∷ map text_called (board_names names)
+wanted_of (Diagnose workers names) = logs_wanted names
+wanted_of (Groups names) = logs_wanted names
+wanted_of (Batch workers names) = logs_wanted names
 wanted_of command = map text_called (names_in_command command)
 
 abbrev pub names_in : List Wanted → List Text

@@ -1,14 +1,14 @@
 // Reads the texts that a command names.
-ghost use Rattle.std.specs.Prelude.{◌∷◌, map};
+ghost use Rattle.std.specs.Prelude.{map};
 ghost use Rattle.command_line.specs.Words.{board_names, chain_names};
-ghost use Rattle.btest_cli.specs.Texts.{wanted_log, text_called, wanted_of};
+ghost use Rattle.btest_cli.specs.Texts.{logs_wanted, text_called, wanted_of};
 ghost use Rattle.btest_cli.specs.inner.Reads.{OfBoard, OfChain, OfLog, OfRequest, Reads};
 
 use crate::failure::Unread;
 use crate::texts::{read_file, read_log, read_texts};
 use bt_base::Store;
 use command_line::{
-    BoardFiles, BoardNames, ChainFiles, ChainNames, Command, FileName, NamedCommand,
+    BoardFiles, BoardNames, ChainFiles, ChainNames, Command, LogFiles, LogNames, NamedCommand,
 };
 use commands::{BoardTexts, ChainTexts, LogTexts, Request};
 use std::alloc::Global;
@@ -31,33 +31,14 @@ pub fn read_request<'a, S: Store>(
         Command::Svf(names) => read_board(alloc, names, store).map(Command::Svf),
         Command::Walk(names) => read_board(alloc, names, store).map(Command::Walk),
         Command::Make(parts) => Ok(Command::Make(*parts)),
-        Command::Diagnose {
-            workers,
-            log,
-            board,
-        } => {
+        Command::Diagnose { workers, files } => {
             let workers = *workers;
-            read_logs(alloc, log, board, store).map(|LogTexts { log, board }| Command::Diagnose {
-                workers,
-                log,
-                board,
-            })
+            read_logs(alloc, files, store).map(|files| Command::Diagnose { workers, files })
         }
-        Command::Groups { log, board } => read_logs(alloc, log, board, store).map(|LogTexts {
-            log,
-            board,
-        }| Command::Groups { log, board }),
-        Command::Batch {
-            workers,
-            log,
-            board,
-        } => {
+        Command::Groups(names) => read_logs(alloc, names, store).map(Command::Groups),
+        Command::Batch { workers, files } => {
             let workers = *workers;
-            read_logs(alloc, log, board, store).map(|LogTexts { log, board }| Command::Batch {
-                workers,
-                log,
-                board,
-            })
+            read_logs(alloc, files, store).map(|files| Command::Batch { workers, files })
         }
     }
 }
@@ -109,20 +90,18 @@ fn read_board<'a, S: Store>(
 // Reads a text of logs, and then the texts of their board.
 fn read_logs<'a, S: Store>(
     alloc: Global,
-    log: &FileName<'a>,
-    names: &BoardNames<'a>,
+    names: &LogNames<'a>,
     store: &mut S,
 ) -> Result<LogTexts, Unread<'a>>
-    ensures { Reads OfLog (wanted_log log.now ∷ map text_called (board_names names.now))
-        (S.held store.old) (S.held store.new) (S.faults store.old) (S.faults store.new)
-        (S.asked store.old) (S.asked store.new) result }
+    ensures { Reads OfLog (logs_wanted names.now) (S.held store.old) (S.held store.new)
+        (S.faults store.old) (S.faults store.new) (S.asked store.old) (S.asked store.new) result }
 {
-    let log = match read_log(alloc, log, store) {
+    let log = match read_log(alloc, &names.log, store) {
         Ok(log) => log,
         Err(failure) => return Err(failure),
     };
-    match read_board(alloc, names, store) {
-        Ok(board) => Ok(LogTexts { log, board }),
+    match read_board(alloc, &names.board, store) {
+        Ok(board) => Ok(LogFiles { log, board }),
         Err(failure) => Err(failure),
     }
 }

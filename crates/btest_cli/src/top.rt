@@ -16,8 +16,7 @@ use bt_base::{Gate, Sink, Store};
 use btest_core::law::{inputs_have_one_answer, inputs_keep_rules};
 use command_line::{BoardNames, Command, NamedCommand, command_of};
 use commands::{
-    LogTexts, Request, Unput, batch, chain, cover, device, diagnosis, groups, ident, summary, svf,
-    walk,
+    Request, Unput, batch, chain, cover, device, diagnosis, groups, ident, summary, svf, walk,
 };
 use fault_sim::law::logs_have_one_diagnosis;
 use refusal_lines::{Names, TextNames, put_memory, put_usage};
@@ -161,9 +160,9 @@ fn roles_of<'n, 'a>(command: &'n NamedCommand<'a>) -> Names<'n, 'a>
             nets: "nets",
             bsdl: TextNames::One("bsdl"),
         },
-        Command::Diagnose { log, board, .. }
-        | Command::Groups { log, board }
-        | Command::Batch { log, board, .. } => board_roles(log.as_str(), board),
+        Command::Diagnose { files, .. } | Command::Groups(files) | Command::Batch { files, .. } => {
+            board_roles(files.log.as_str(), &files.board)
+        }
     }
 }
 
@@ -199,22 +198,12 @@ fn answer<R: Threads + Sync, K: Sink, G: Gate>(
         Command::Svf(texts) => svf(alloc, &texts, out),
         Command::Walk(texts) => walk(alloc, &texts, out),
         Command::Make(parts) => summary(alloc, parts, out),
-        Command::Diagnose {
-            workers,
-            log,
-            board,
-        } => {
-            let texts = LogTexts { log, board };
-            diagnosis(rt, alloc, texts, workers.number(), gate, out)
+        Command::Diagnose { workers, files } => {
+            diagnosis(rt, alloc, files, workers.number(), gate, out)
         }
-        Command::Groups { log, board } => groups(alloc, LogTexts { log, board }, out),
-        Command::Batch {
-            workers,
-            log,
-            board,
-        } => {
-            let texts = LogTexts { log, board };
-            batch(rt, alloc, texts, workers.number(), gate, out)
+        Command::Groups(texts) => groups(alloc, texts, out),
+        Command::Batch { workers, files } => {
+            batch(rt, alloc, files, workers.number(), gate, out)
         }
     }
 }

@@ -15,10 +15,10 @@ use Rattle.clap.specs.Faults.{other_fault, step_fault, fault_of, level_fault, en
 use Rattle.clap.proofs.OnLiterals.{clap_on_literals}
 use Rattle.command_line.specs.declared.command.Command.TheVariants.{Chain, Ident, Cover, Svf, Walk, Diagnose, Groups, Batch}
 use Rattle.command_line.specs.Limits.{most_names, most_workers}
-use Rattle.command_line.specs.Words.{number_of, with_names, ChainNames, BoardNames, Command, is_plain, parsed, board_called, log_called, chain_of, device_of, board_names_of, make_of, worked_of, groups_of}
+use Rattle.command_line.specs.Words.{number_of, with_names, ChainNames, BoardNames, LogNames, Command, is_plain, parsed, board_called, log_called, chain_of, device_of, board_names_of, log_names_of, make_of, worked_of}
 use Rattle.command_line.specs.Grammar.{board_words}
 use Rattle.command_line.specs.inner.App.{btest_app, names_rule, top_app, worded_app}
-use Rattle.command_line.specs.inner.Found.{command_in, called_found, board_found, log_found, chain_in, device_in, board_in, make_in, worked_in, groups_in}
+use Rattle.command_line.specs.inner.Found.{command_in, called_found, board_found, log_found, chain_in, device_in, board_in, log_in, make_in, worked_in}
 use Rattle.command_line.proofs.PlainLemmas.{Plain, AllPlain, all_plain, met, plain_fault}
 use Rattle.command_line.proofs.PlaceLemmas.{end_fault, if_none, placed_from, answer_placed, row_of, TakesNames, names_placed}
 
@@ -180,10 +180,18 @@ board_rows chain nets = row_of (codes "CHAIN") chain ∷ row_of (codes "NETS") n
 abbrev board_of_names : Text → Text → List Text → BoardNames
 board_of_names chain nets bsdl = record { chain = chain; nets = nets; bsdl = bsdl }
 
+abbrev log_of_names : Text → BoardNames → LogNames
+log_of_names log board = record { log = log; board = board }
+
 few_board : (chain nets : Text) (bsdl : List Text)
     → option_map (board_of_names chain nets) (with_names bsdl bsdl)
     ≡ with_names bsdl (board_of_names chain nets bsdl)
 few_board chain nets bsdl = few_names (board_of_names chain nets) bsdl
+
+few_log : (log chain nets : Text) (bsdl : List Text)
+    → option_map (log_of_names log) (option_map (board_of_names chain nets) (with_names bsdl bsdl))
+    ≡ option_map (log_of_names log) (with_names bsdl (board_of_names chain nets bsdl))
+few_log log chain nets bsdl = ap (option_map (log_of_names log)) (few_board chain nets bsdl)
 
 board_takes : (name chain nets : Text) → TakesNames (board_shape name) (board_rows chain nets) 3
 unfolding clap_on_literals
@@ -214,7 +222,7 @@ unfolding clap_on_literals
 log_takes name workers log chain nets [] x = record { step = λ next. refl; passes = refl; ends = refl; rows = refl }
 log_takes name workers log chain nets (n ∷ ns) x = record { step = λ next. refl; passes = refl; ends = refl; rows = refl }
 
-log_read : (name : Text) (command : ℕ → Text → BoardNames → Command) → Reads (log_shape name) (worked_in command) (worked_of command)
+log_read : (name : Text) (command : ℕ → LogNames → Command) → Reads (log_shape name) (worked_in command) (worked_of command)
 unfolding clap_on_literals
 log_read name command [] = refl
 log_read name command (workers ∷ []) = refl
@@ -226,8 +234,8 @@ log_read name command (workers ∷ log ∷ chain ∷ nets ∷ x ∷ rest) =
     (log_takes name workers log chain nets) [] x rest
     ∙ ap
     (option_and_then
-    (λ board. option_map (λ number. command number log board)
-    (number_of most_workers workers))) (few_board chain nets (x ∷ rest))
+    (λ files. option_map (λ number. command number files)
+    (number_of most_workers workers))) (few_log log chain nets (x ∷ rest))
 
 -- the shape of the command that works on a response log with one worker
 abbrev groups_shape : Shape
@@ -241,16 +249,16 @@ unfolding clap_on_literals
 groups_takes log chain nets [] x = record { step = λ next. refl; passes = refl; ends = refl; rows = refl }
 groups_takes log chain nets (n ∷ ns) x = record { step = λ next. refl; passes = refl; ends = refl; rows = refl }
 
-groups_read : Reads groups_shape groups_in groups_of
+groups_read : Reads groups_shape (λ rows. option_map Groups (log_in rows)) (λ words. option_map Groups (log_names_of words))
 unfolding clap_on_literals
 groups_read [] = refl
 groups_read (log ∷ []) = refl
 groups_read (log ∷ chain ∷ []) = refl
 groups_read (log ∷ chain ∷ nets ∷ []) = refl
 groups_read (log ∷ chain ∷ nets ∷ x ∷ rest) =
-    names_placed groups_shape groups_in (groups_rows log chain nets) 4 (groups_takes log chain nets)
-    [] x rest
-    ∙ ap (option_map (Groups log)) (few_board chain nets (x ∷ rest))
+    names_placed groups_shape (λ rows. option_map Groups (log_in rows)) (groups_rows log chain nets) 4
+    (groups_takes log chain nets) [] x rest
+    ∙ ap (option_map Groups) (few_log log chain nets (x ∷ rest))
 
 chain_word : (rest : List Text) → AllPlain rest → answer (codes "chain" ∷ rest) ≡ option_map Chain (chain_of rest)
 unfolding clap_on_literals
@@ -316,13 +324,13 @@ diagnose_word rest all =
     { met = refl; passes = refl; below = λ rest. refl; finds = λ rest. refl; no_trail = refl })
     (λ rest. worked_of Diagnose rest) (log_read (codes "diagnose") Diagnose) rest all
 
-groups_word : (rest : List Text) → AllPlain rest → answer (codes "groups" ∷ rest) ≡ groups_of rest
+groups_word : (rest : List Text) → AllPlain rest → answer (codes "groups" ∷ rest) ≡ option_map Groups (log_names_of rest)
 unfolding clap_on_literals board_found log_found
 groups_word rest all =
     named_word (codes "groups") groups_shape
     (record
     { met = refl; passes = refl; below = λ rest. refl; finds = λ rest. refl; no_trail = refl })
-    (λ rest. groups_of rest) (groups_read) rest all
+    (λ rest. option_map Groups (log_names_of rest)) groups_read rest all
 
 batch_word : (rest : List Text) → AllPlain rest → answer (codes "batch" ∷ rest) ≡ worked_of Batch rest
 unfolding clap_on_literals board_found log_found
@@ -387,7 +395,7 @@ first_word : (w : Text) (rest : List Text) → Plain w → AllPlain rest → ans
 unfolding clap_on_literals board_called log_called
 first_word w rest p all =
     let if_batch : Option Command = if bytes_eq (codes "batch") w then worked_of Batch rest else None in
-    let if_groups : Option Command = if bytes_eq (codes "groups") w then groups_of rest else if_batch in
+    let if_groups : Option Command = if bytes_eq (codes "groups") w then option_map Groups (log_names_of rest) else if_batch in
     let if_diagnose : Option Command = if bytes_eq (codes "diagnose") w then worked_of Diagnose rest else if_groups in
     let if_make : Option Command = if bytes_eq (codes "make") w then make_of rest else if_diagnose in
     let if_walk : Option Command = if bytes_eq (codes "walk") w then option_map Walk (board_names_of rest) else if_make in
@@ -403,7 +411,7 @@ first_word w rest p all =
     named (codes "walk") w rest (option_map Walk (board_names_of rest)) if_make (walk_word rest all) (λ walk.
     named (codes "make") w rest (make_of rest) if_diagnose (make_word rest all) (λ make.
     named (codes "diagnose") w rest (worked_of Diagnose rest) if_groups (diagnose_word rest all) (λ diagnose.
-    named (codes "groups") w rest (groups_of rest) if_batch (groups_word rest all) (λ groups.
+    named (codes "groups") w rest (option_map Groups (log_names_of rest)) if_batch (groups_word rest all) (λ groups.
     named (codes "batch") w rest (worked_of Batch rest) None (batch_word rest all) (λ batch.
     other_word w rest p (
       no_name (codes "chain") w chain,

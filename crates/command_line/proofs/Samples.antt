@@ -1,7 +1,7 @@
 -- Samples of words with the commands that they form and the numbers that they denote, worked out by hand.
 use Rattle.std.proofs.Common.{◌≡◌, ℕ, List, [], ◌∷◌, map, replicate, Option, Some, None, codes, refl}
 use Rattle.command_line.specs.declared.command.Command.TheVariants.{Chain, Walk, Ident, Make, Diagnose, Groups, Batch}
-use Rattle.command_line.specs.Words.{Text, BoardNames, Command, board_called, log_called, command_of, number_of}
+use Rattle.command_line.specs.Words.{Text, BoardNames, LogNames, Command, board_called, log_called, command_of, number_of}
 
 leading_zeros : number_of 255 (codes "00000000000000000007") ≡ Some 7
 leading_zeros = refl
@@ -49,14 +49,21 @@ made_twice : command_of (codes "make" ∷ codes "2" ∷ codes "3" ∷ []) ≡ No
 unfolding board_called
 made_twice = refl
 
+-- the names of a file of response logs and of the files of its board
+abbrev logged_names : LogNames
+logged_names = record { log = codes "g"; board = record { chain = codes "c"; nets = codes "n"; bsdl = codes "drv" ∷ [] } }
+
+-- the words that are these names
+abbrev logged : List Text
+logged = codes "g" ∷ codes "c" ∷ codes "n" ∷ codes "drv" ∷ []
+
 -- the command `diagnose` with this word as its number of workers
 abbrev diagnosed_by : Text → Option Command
-diagnosed_by workers = command_of (codes "diagnose" ∷ workers ∷ codes "g" ∷ codes "c" ∷ codes "n" ∷ codes "drv" ∷ [])
+diagnosed_by workers = command_of (codes "diagnose" ∷ workers ∷ logged)
 
 diagnosed : diagnosed_by (codes "2")
     ≡ Some
-    (Diagnose 2 (codes "g")
-    (record { chain = codes "c"; nets = codes "n"; bsdl = codes "drv" ∷ [] }))
+    (Diagnose 2 logged_names)
 unfolding board_called log_called
 diagnosed = refl
 
@@ -71,17 +78,12 @@ workers_past_the_limit = refl
 identified : command_of (codes "ident" ∷ codes "c" ∷ codes "b" ∷ []) ≡ Some (Ident (record { chain = codes "c"; bsdl = codes "b" ∷ [] }))
 identified = refl
 
--- the file names of a command that reads response logs
-abbrev logged : List Text
-logged = codes "g" ∷ codes "c" ∷ codes "n" ∷ codes "drv" ∷ []
-
 walked : command_of (codes "walk" ∷ codes "c" ∷ codes "n" ∷ []) ≡ Some (Walk (record { chain = codes "c"; nets = codes "n"; bsdl = [] }))
 unfolding board_called
 walked = refl
 
 grouped : command_of (codes "groups" ∷ logged)
-    ≡ Some
-    (Groups (codes "g") (record { chain = codes "c"; nets = codes "n"; bsdl = codes "drv" ∷ [] }))
+    ≡ Some (Groups logged_names)
 unfolding board_called log_called
 grouped = refl
 
@@ -90,9 +92,7 @@ unfolding board_called log_called
 grouped_without_nets = refl
 
 batched : command_of (codes "batch" ∷ codes "64" ∷ logged)
-    ≡ Some
-    (Batch 64 (codes "g")
-    (record { chain = codes "c"; nets = codes "n"; bsdl = codes "drv" ∷ [] }))
+    ≡ Some (Batch 64 logged_names)
 unfolding board_called log_called
 batched = refl
 
@@ -101,8 +101,7 @@ unfolding board_called log_called
 batched_without_workers = refl
 
 batched_with_zeros : command_of (codes "batch" ∷ codes "00000000000000000001" ∷ logged)
-    ≡ Some
-    (Batch 1 (codes "g") (record { chain = codes "c"; nets = codes "n"; bsdl = codes "drv" ∷ [] }))
+    ≡ Some (Batch 1 logged_names)
 unfolding board_called log_called
 batched_with_zeros = refl
 
@@ -131,6 +130,9 @@ described count = codes "c" ∷ codes "n" ∷ replicate count (codes "b")
 abbrev most_names : BoardNames
 most_names = record { chain = codes "c"; nets = codes "n"; bsdl = replicate 255 (codes "b") }
 
+abbrev most_logged : LogNames
+most_logged = record { log = codes "g"; board = most_names }
+
 -- three commands with `count` BSDL names each
 abbrev with_described : ℕ → List (Option Command)
 with_described count =
@@ -139,8 +141,7 @@ with_described count =
     ∷ (codes "batch" ∷ codes "1" ∷ codes "g" ∷ described count) ∷ [])
 
 most_described : with_described 255
-    ≡ Some (Walk most_names) ∷ Some (Groups (codes "g") most_names)
-    ∷ Some (Batch 1 (codes "g") most_names) ∷ []
+    ≡ Some (Walk most_names) ∷ Some (Groups most_logged) ∷ Some (Batch 1 most_logged) ∷ []
 unfolding board_called log_called
 most_described = refl
 

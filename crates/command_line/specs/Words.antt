@@ -7,13 +7,18 @@ use Rattle.std.specs.Str.Parse.{digits_value}
 use Rattle.command_line.specs.declared.command.Command.{Command as CommandOf}
 use Rattle.command_line.specs.declared.command.BoardFiles.{BoardFiles}
 use Rattle.command_line.specs.declared.command.ChainFiles.{ChainFiles}
+use Rattle.command_line.specs.declared.command.LogFiles.{LogFiles}
 use Rattle.command_line.specs.declared.command.Command.TheVariants.{Chain, Ident, Device, Cover, Svf, Walk, Make, Diagnose, Groups, Batch}
 use Rattle.command_line.specs.Limits.{most_names, most_made, most_workers}
 
 abbrev pub Text : Type 0
 Text = List ℕ
 
--- a command with the names of the files that it reads
+-- The command of a command line has the names of its files. The length test and the identity test of a chain have the file names of the
+-- chain. The listing of a device has the name of a BSDL file. The coverage list, the test and the walking test of a board have the file
+-- names of the board. The summary of a generated board has the number of parts of the board. The diagnosis of a board and the diagnoses of
+-- many boards have the number of workers, and the names of a file of response logs and of the files of its board. The groups of shorted
+-- nets have these names, too.
 abbrev pub Command : Type 0
 Command = CommandOf Text (List Text)
 
@@ -24,6 +29,10 @@ ChainNames = ChainFiles Text (List Text)
 -- the file names of a board: a chain file, a net file and BSDL files
 abbrev pub BoardNames : Type 0
 BoardNames = BoardFiles Text (List Text)
+
+-- the names of a file of response logs and of the files of its board
+abbrev pub LogNames : Type 0
+LogNames = LogFiles Text (List Text)
 
 -- the word is not empty and does not begin with `-`
 abbrev pub is_plain : Text → Bool
@@ -63,21 +72,24 @@ board_names_of [] = None
 board_names_of (chain ∷ []) = None
 board_names_of (chain ∷ nets ∷ names) = with_names names (record { chain = chain; nets = nets; bsdl = names })
 
+-- the names that these words give: a file of response logs, then the file names of its board
+abbrev pub log_names_of : List Text → Option LogNames
+log_names_of [] = None
+log_names_of (log ∷ names) = option_map (λ board. record { log = log; board = board }) (board_names_of names)
+
 -- the command `make` that these words give: one number of parts, from 1 to 255; `None` for other words
 abbrev pub make_of : List Text → Option Command
 make_of [] = None
 make_of (number ∷ []) = option_map Make (number_of most_made number)
 make_of (number ∷ other ∷ others) = None
 
--- The command that these words give: a number of workers, a file of response logs, and the file names of a board. It is `None` if a
--- word is missing, the number of workers is not from 1 to 64, or there are more than 255 BSDL names.
-abbrev pub worked_of : (ℕ → Text → BoardNames → Command) → List Text → Option Command
+-- the command that these words give: a number of workers, then the names of a file of response logs and of the files of its board
+abbrev pub worked_of : (ℕ → LogNames → Command) → List Text → Option Command
 worked_of command [] = None
-worked_of command (workers ∷ []) = None
-worked_of command (workers ∷ log ∷ names) =
+worked_of command (workers ∷ names) =
     option_and_then
-    (λ board. option_map (λ number. command number log board) (number_of most_workers workers))
-    (board_names_of names)
+    (λ files. option_map (λ number. command number files) (number_of most_workers workers))
+    (log_names_of names)
 
 abbrev pub diagnose_of : List Text → Option Command
 diagnose_of words = worked_of Diagnose words
@@ -85,17 +97,12 @@ diagnose_of words = worked_of Diagnose words
 abbrev pub batch_of : List Text → Option Command
 batch_of words = worked_of Batch words
 
--- the command `groups` that these words give: a response log, and the file names of a board
-abbrev pub groups_of : List Text → Option Command
-groups_of [] = None
-groups_of (log ∷ names) = option_map (Groups log) (board_names_of names)
-
 -- the command with this name and these words, if the name is `diagnose`, `groups` or `batch`; these
 -- commands read response logs
 unfoldable pub log_called : Text → List Text → Option Command
 log_called word rest =
     if bytes_eq (codes "diagnose") word then diagnose_of rest else
-    if bytes_eq (codes "groups") word then groups_of rest else
+    if bytes_eq (codes "groups") word then option_map Groups (log_names_of rest) else
     if bytes_eq (codes "batch") word then batch_of rest else None
 
 -- the command with this name and these words, for all names except `chain`, `ident` and `device`
@@ -125,6 +132,10 @@ chain_names names = names.chain ∷ names.bsdl
 abbrev pub board_names : BoardNames → List Text
 board_names names = names.chain ∷ names.nets ∷ names.bsdl
 
+-- the names of a file of response logs and of the files of its board, in order
+abbrev pub log_names : LogNames → List Text
+log_names names = names.log ∷ board_names names.board
+
 -- the names of the files that a command reads, in the order of the command line
 abbrev pub names_in_command : Command → List Text
 names_in_command (Chain names) = chain_names names
@@ -134,6 +145,6 @@ names_in_command (Cover names) = board_names names
 names_in_command (Svf names) = board_names names
 names_in_command (Walk names) = board_names names
 names_in_command (Make parts) = []
-names_in_command (Diagnose workers log names) = log ∷ board_names names
-names_in_command (Groups log names) = log ∷ board_names names
-names_in_command (Batch workers log names) = log ∷ board_names names
+names_in_command (Diagnose workers names) = log_names names
+names_in_command (Groups names) = log_names names
+names_in_command (Batch workers names) = log_names names

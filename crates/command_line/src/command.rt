@@ -1,8 +1,7 @@
 // The commands of the program.
 use crate::number::{PartCount, WorkerCount};
 
-/// The files of a chain. A `File` is the name or the text of one file, and a `Files` has those of
-/// the BSDL files.
+/// The files of a command that reads a chain.
 #[derive(Drop)]
 pub struct ChainFiles<File, Files> {
     /// The chain file.
@@ -11,8 +10,7 @@ pub struct ChainFiles<File, Files> {
     pub bsdl: Files,
 }
 
-/// The files of a board. A `File` is the name or the text of one file, and a `Files` has those of
-/// the BSDL files.
+/// The files of a command that reads a board.
 #[derive(Drop)]
 pub struct BoardFiles<File, Files> {
     /// The chain file.
@@ -23,8 +21,17 @@ pub struct BoardFiles<File, Files> {
     pub bsdl: Files,
 }
 
-/// A command, with a `File` for each file that it reads and a `Files` for its list of BSDL files.
-/// These are names in a command from the command line, and texts after the files are read.
+/// The files of a command that reads response logs.
+#[derive(Drop)]
+pub struct LogFiles<File, Files> {
+    /// The file with one or more response logs.
+    pub log: File,
+    /// The files of the board to which the logs belong.
+    pub board: BoardFiles<File, Files>,
+}
+
+/// The commands of the program, generic over the types of a file and of the list of BSDL files. These are types of names if the command
+/// comes from the command line, and types of texts once the files are read.
 #[derive(Drop)]
 pub enum Command<File, Files> {
     /// Writes the test of the length of a chain.
@@ -45,25 +52,16 @@ pub enum Command<File, Files> {
     Diagnose {
         /// The number of threads that work on the diagnosis.
         workers: WorkerCount,
-        /// The response log.
-        log: File,
-        /// The files of the board.
-        board: BoardFiles<File, Files>,
+        /// The response log and the files of the board.
+        files: LogFiles<File, Files>,
     },
-    /// Finds the groups of shorted nets of a board.
-    Groups {
-        /// The response log of the walking test.
-        log: File,
-        /// The files of the board.
-        board: BoardFiles<File, Files>,
-    },
+    /// Finds the groups of shorted nets of a board from a response log of the walking test.
+    Groups(LogFiles<File, Files>),
     /// Diagnoses many boards of the same design.
     Batch {
         /// The number of threads that work on the diagnoses.
         workers: WorkerCount,
-        /// The file with the response logs of the boards.
-        log: File,
-        /// The files of the design.
-        board: BoardFiles<File, Files>,
+        /// The file with the response logs of the boards, and the files of the design.
+        files: LogFiles<File, Files>,
     },
 }

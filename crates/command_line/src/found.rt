@@ -3,12 +3,14 @@ ghost use Rattle.std.specs.Prelude.{◌≡◌, map, IfOk, option_map};
 ghost use Rattle.clap.specs.Matches.{found_of};
 ghost use Rattle.clap.specs.Simple.{subcommand_rows_of};
 ghost use Rattle.clap.specs.Walk.{first_of, rows_of};
-ghost use Rattle.command_line.specs.declared.command.Command.TheVariants.{Chain, Ident, Cover, Svf, Walk, Diagnose, Batch};
+ghost use Rattle.command_line.specs.declared.command.Command.TheVariants.{Chain, Ident, Cover, Svf, Walk, Diagnose, Groups, Batch};
 ghost use Rattle.command_line.specs.Words.{with_names};
-ghost use Rattle.command_line.specs.inner.Found.{command_in, called_found, board_found, log_found, few_in, chain_in, board_in, device_in, make_in, workers_in, worked_in, groups_in};
+ghost use Rattle.command_line.specs.inner.Found.{command_in, called_found, board_found, log_found, few_in, chain_in, board_in, log_in, device_in, make_in, workers_in, worked_in};
 
-use crate::command::{BoardFiles, ChainFiles, Command};
-use crate::names::{BoardNames, BsdlNames, ChainNames, FileName, MOST_NAMES, NamedCommand};
+use crate::command::{BoardFiles, ChainFiles, Command, LogFiles};
+use crate::names::{
+    BoardNames, BsdlNames, ChainNames, FileName, LogNames, MOST_NAMES, NamedCommand,
+};
 use crate::number::{PartCount, WorkerCount};
 use clap::ArgMatches;
 use std::alloc::{AllocError, Global};
@@ -164,6 +166,24 @@ fn board_in<'a>(alloc: Global, found: &ArgMatches<'a>) -> Result<Option<BoardNam
     }
 }
 
+// Returns the names of a file of response logs and of the files of its board, or `None` if there are more than 255 BSDL
+// names.
+fn log_in<'a>(alloc: Global, found: &ArgMatches<'a>) -> Result<Option<LogNames<'a>>, AllocError>
+    ensures { IfOk result (λ names. names ≡ log_in (rows_of (found_of found.now))) }
+{
+    let Some(log) = word_in(found, "LOG") else {
+        return Ok(None);
+    };
+    match board_in(alloc, found) {
+        Ok(Some(board)) => Ok(Some(LogFiles {
+            log: FileName::of(log),
+            board,
+        })),
+        Ok(None) => Ok(None),
+        Err(error) => Err(error),
+    }
+}
+
 // Returns the command `chain`, or `None` if an argument is missing or there are more than 255 BSDL names.
 fn chain_command<'a>(
     alloc: Global,
@@ -260,15 +280,8 @@ fn diagnose_command<'a>(
 ) -> Result<Option<NamedCommand<'a>>, AllocError>
     ensures { IfOk result (λ c. c ≡ worked_in Diagnose (rows_of (found_of found.now))) }
 {
-    let Some(log) = word_in(found, "LOG") else {
-        return Ok(None);
-    };
-    match (board_in(alloc, found)?, workers_in(found)) {
-        (Some(board), Some(workers)) => Ok(Some(Command::Diagnose {
-            workers,
-            log: FileName::of(log),
-            board,
-        })),
+    match (log_in(alloc, found)?, workers_in(found)) {
+        (Some(files), Some(workers)) => Ok(Some(Command::Diagnose { workers, files })),
         _ => Ok(None),
     }
 }
@@ -278,16 +291,10 @@ fn groups_command<'a>(
     alloc: Global,
     found: &ArgMatches<'a>,
 ) -> Result<Option<NamedCommand<'a>>, AllocError>
-    ensures { IfOk result (λ c. c ≡ groups_in (rows_of (found_of found.now))) }
+    ensures { IfOk result (λ c. c ≡ option_map Groups (log_in (rows_of (found_of found.now)))) }
 {
-    let Some(log) = word_in(found, "LOG") else {
-        return Ok(None);
-    };
-    match board_in(alloc, found)? {
-        Some(board) => Ok(Some(Command::Groups {
-            log: FileName::of(log),
-            board,
-        })),
+    match log_in(alloc, found)? {
+        Some(names) => Ok(Some(Command::Groups(names))),
         None => Ok(None),
     }
 }
@@ -300,15 +307,8 @@ fn batch_command<'a>(
 ) -> Result<Option<NamedCommand<'a>>, AllocError>
     ensures { IfOk result (λ c. c ≡ worked_in Batch (rows_of (found_of found.now))) }
 {
-    let Some(log) = word_in(found, "LOG") else {
-        return Ok(None);
-    };
-    match (board_in(alloc, found)?, workers_in(found)) {
-        (Some(board), Some(workers)) => Ok(Some(Command::Batch {
-            workers,
-            log: FileName::of(log),
-            board,
-        })),
+    match (log_in(alloc, found)?, workers_in(found)) {
+        (Some(files), Some(workers)) => Ok(Some(Command::Batch { workers, files })),
         _ => Ok(None),
     }
 }

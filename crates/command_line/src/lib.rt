@@ -8,7 +8,7 @@ mod names;
 mod number;
 mod words;
 
-pub use command::{BoardFiles, ChainFiles, Command};
-pub use names::{BoardNames, BsdlNames, ChainNames, FileName, NamedCommand};
+pub use command::{BoardFiles, ChainFiles, Command, LogFiles};
+pub use names::{BoardNames, BsdlNames, ChainNames, FileName, LogNames, NamedCommand};
 pub use number::{PartCount, WorkerCount};
 pub use words::command_of;

@@ -2,7 +2,7 @@
 ghost use Rattle.std.specs.Prelude.{◌≡◌, ◌≤◌, length, map};
 ghost use Rattle.command_line.specs.Limits.{most_names};
 
-use crate::command::{BoardFiles, ChainFiles, Command};
+use crate::command::{BoardFiles, ChainFiles, Command, LogFiles};
 use std::marker::Model;
 
 /// The largest number of BSDL files that a command takes.
@@ -78,6 +78,9 @@ pub type ChainNames<'a> = ChainFiles<FileName<'a>, BsdlNames<'a>>;
 
 /// The names of the files of a board.
 pub type BoardNames<'a> = BoardFiles<FileName<'a>, BsdlNames<'a>>;
+
+/// The names of a file of response logs and of the files of its board.
+pub type LogNames<'a> = LogFiles<FileName<'a>, BsdlNames<'a>>;
 
 /// A command with the names of its files.
 pub type NamedCommand<'a> = Command<FileName<'a>, BsdlNames<'a>>;

@@ -18,8 +18,7 @@ use Rattle.batch_diag.specs.Batch.{BatchAnswer, batch_told}
 use Rattle.board_defs.specs.declared.board.RawBoard.{RawBoard}
 use Rattle.commands.specs.LogRead.{Judging, TextFault, Log, Batch as OfBatch}
 use Rattle.commands.specs.Answers.{Answers, AnswersOn, IsBoardOf, IsJudgedOf, JudgedAnswers, LogAnswers}
-use Rattle.commands.specs.Requests.{BoardTexts}
-use Rattle.commands.specs.declared.texts.LogTexts.{LogTexts}
+use Rattle.commands.specs.Requests.{BoardTexts, LogTexts}
 use Rattle.commands.specs.inner.Unput.{IsPutInPart, NoBoard, PutsText, unput_batch, unput_log, unput_of}
 
 -- if the command finds a fault in its texts, writes nothing and returns the fault, `Answers` holds for the command

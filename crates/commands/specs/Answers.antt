@@ -7,9 +7,8 @@ use Rattle.btest_core.specs.declared.fault.InputFault.{InputFault}
 use Rattle.btest_core.specs.BoardRead.{IsBoardRead}
 use Rattle.command_line.specs.Words.{Text}
 use Rattle.commands.specs.LogRead.{Judging, OnBoard, OnDenoted, TextFault, Input, Log, Batch}
-use Rattle.commands.specs.Requests.{BoardTexts, ChainTexts}
+use Rattle.commands.specs.Requests.{BoardTexts, ChainTexts, LogTexts}
 use Rattle.commands.specs.Worth.{OfDenoted}
-use Rattle.commands.specs.declared.texts.LogTexts.{LogTexts}
 use Rattle.commands.specs.declared.unput.Unput.{Unput}
 use Rattle.commands.specs.declared.unput.Unput.TheVariants as unput
 

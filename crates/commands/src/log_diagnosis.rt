@@ -17,6 +17,7 @@ use crate::unput::{Unput, answer_by, unput_by_log};
 use board_defs::{Board, Single};
 use bt_base::{Gate, Sink};
 use bt_bits::Line;
+use command_line::LogFiles;
 use diagnoser::{Workers, diagnose_logged, write_diagnosis};
 use fault_sim::LoggedTest;
 use response_log::log_of;
@@ -45,7 +46,7 @@ pub fn diagnosis<R: Threads + Sync, K: Sink, G: Gate>(
     ensures { JudgedAnswers diagnosing diagnosis_text Diagnoses texts (K.shown out.old)
         (K.shown out.new) result }
 {
-    let LogTexts { log, board } = texts;
+    let LogFiles { log, board } = texts;
     diagnosis_of(rt, alloc, &board, log, Workers::of(workers), gate, out)
 }
 

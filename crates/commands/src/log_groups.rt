@@ -16,6 +16,7 @@ use crate::unput::{Unput, answer_by, unput_by_log};
 use board_defs::Board;
 use bt_base::Sink;
 use bt_bits::Line;
+use command_line::LogFiles;
 use response_log::{Log, log_of};
 use std::alloc::Global;
 use walk_test::law::{groups_respond, one_set};
@@ -27,7 +28,7 @@ pub fn groups<K: Sink>(alloc: Global, texts: LogTexts, out: &mut K) -> Result<()
     ensures { JudgedAnswers grouping grouping_text IsGroupsText texts (K.shown out.old)
         (K.shown out.new) result }
 {
-    let LogTexts { log, board } = texts;
+    let LogFiles { log, board } = texts;
     groups_of(alloc, &board, log, out)
 }
 

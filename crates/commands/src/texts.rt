@@ -1,7 +1,7 @@
 // The texts of a command. Each text has fewer than 2^32 bytes.
 ghost use Rattle.std.specs.Prelude.{◌≡◌, ◌<◌, ◌^◌, All, length, map};
 
-use command_line::{BoardFiles, ChainFiles, Command};
+use command_line::{BoardFiles, ChainFiles, Command, LogFiles};
 use std::marker::Model;
 
 /// A text of fewer than 2^32 bytes.
@@ -90,12 +90,8 @@ pub type ChainTexts = ChainFiles<ShortText, ShortTexts>;
 /// The texts of a board: a chain file, a net file and BSDL files.
 pub type BoardTexts = BoardFiles<ShortText, ShortTexts>;
 
+/// A text of one or more response logs, and the texts of the board to which the logs belong.
+pub type LogTexts = LogFiles<ShortText, ShortTexts>;
+
 /// A command with the texts of its files.
 pub type Request = Command<ShortText, ShortTexts>;
-
-/// A text of one or more response logs, and the texts of the board to which the logs belong.
-#[derive(Drop)]
-pub struct LogTexts {
-    pub log: ShortText,
-    pub board: BoardTexts,
-}

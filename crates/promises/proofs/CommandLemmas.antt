@@ -138,8 +138,8 @@ module _ (run : Run) (is : IsRun run) (one : SayOne) where
   diagnosed board rows pass faults right = record { passes = right.passes; none = right.none; exactly = right.lists.exactly; in_order = right.lists.in_order }
 
   pub diagnoses_log : LinesAreRead → DiagnosesLog run
-  diagnoses_log lines workers name names log chain nets bsdl board rows on denotes holds =
-      prints run is (Diagnose workers name names) on.0 (log ∷ chain ∷ nets ∷ bsdl) on.1 _ refl _ (λ line gives. sound gives)
+  diagnoses_log lines workers names log chain nets bsdl board rows on denotes holds =
+      prints run is (Diagnose workers names) on.0 (log ∷ chain ∷ nets ∷ bsdl) on.1 _ refl _ (λ line gives. sound gives)
       (λ text gives worth.
       let told = subst (λ (b : RawBoard). Diagnoses log b text) (same_board chain nets bsdl board worth.0 denotes worth.1) worth.2 in
       let same : told.rows ≡ rows = same_ok (sym told.read ∙ read) in
@@ -149,13 +149,13 @@ module _ (run : Run) (is : IsRun run) (one : SayOne) where
       read : test_log log board ≡ Ok rows
       read = (lines.test chain nets bsdl board log rows denotes).1 holds
 
-      sound : {line : Text} → GivesOutcome (Diagnose workers name names) (log ∷ chain ∷ nets ∷ bsdl) (Err line) → ⊥
+      sound : {line : Text} → GivesOutcome (Diagnose workers names) (log ∷ chain ∷ nets ∷ bsdl) (Err line) → ⊥
       sound (inl (fault, found, e)) = not_both (one.board chain nets bsdl (Ok board) (Err fault) denotes found)
       sound (inr (other, also, fault, fails, e)) = read_well test_log log chain nets bsdl board rows denotes read other fault also fails
 
   pub rests_on_log : LinesAreRead → RestsOnLog run
-  rests_on_log lines workers name names log chain nets bsdl on ended =
-      let gives = (gives_text run is (Diagnose workers name names) on.0 (log ∷ chain ∷ nets ∷ bsdl) on.1 ended).1 in
+  rests_on_log lines workers names log chain nets bsdl on ended =
+      let gives = (gives_text run is (Diagnose workers names) on.0 (log ∷ chain ∷ nets ∷ bsdl) on.1 ended).1 in
       (gives.0, gives.1, gives.2, (lines.test chain nets bsdl gives.0 log gives.2 gives.1).0 gives.3)
 
   diagnosed_each : (board : RawBoard) (blocks : List Block) (verdicts : List Verdict)
@@ -171,8 +171,8 @@ module _ (run : Run) (is : IsRun run) (one : SayOne) where
   )
 
   pub diagnoses_blocks : LinesAreRead → DiagnosesBlocks run
-  diagnoses_blocks lines workers name names logs chain nets bsdl board blocks on denotes holds =
-      prints run is (Batch workers name names) on.0 (logs ∷ chain ∷ nets ∷ bsdl) on.1 _ refl _ (λ line gives. sound gives)
+  diagnoses_blocks lines workers names logs chain nets bsdl board blocks on denotes holds =
+      prints run is (Batch workers names) on.0 (logs ∷ chain ∷ nets ∷ bsdl) on.1 _ refl _ (λ line gives. sound gives)
       (λ text gives worth.
       let told = subst (λ (b : RawBoard). DiagnosesEach logs b text) (same_board chain nets bsdl board worth.0 denotes worth.1) worth.2 in
       let same : told.blocks ≡ blocks = same_ok (sym told.read ∙ read) in
@@ -189,20 +189,20 @@ module _ (run : Run) (is : IsRun run) (one : SayOne) where
       read : test_blocks logs board ≡ Ok blocks
       read = (lines.blocks chain nets bsdl board logs blocks denotes).1 holds
 
-      sound : {line : Text} → GivesOutcome (Batch workers name names) (logs ∷ chain ∷ nets ∷ bsdl) (Err line) → ⊥
+      sound : {line : Text} → GivesOutcome (Batch workers names) (logs ∷ chain ∷ nets ∷ bsdl) (Err line) → ⊥
       sound (inl (fault, found, e)) = not_both (one.board chain nets bsdl (Ok board) (Err fault) denotes found)
       sound (inr (other, also, fault, fails, e)) =
           read_well test_blocks logs chain nets bsdl board blocks denotes read other fault also
           fails
 
   pub rests_on_blocks : LinesAreRead → RestsOnBlocks run
-  rests_on_blocks lines workers name names logs chain nets bsdl on ended =
-      let gives = (gives_text run is (Batch workers name names) on.0 (logs ∷ chain ∷ nets ∷ bsdl) on.1 ended).1 in
+  rests_on_blocks lines workers names logs chain nets bsdl on ended =
+      let gives = (gives_text run is (Batch workers names) on.0 (logs ∷ chain ∷ nets ∷ bsdl) on.1 ended).1 in
       (gives.0, gives.1, gives.2, (lines.blocks chain nets bsdl gives.0 logs gives.2 gives.1).0 gives.3)
 
   pub finds_groups : LinesAreRead → FindsGroups run
-  finds_groups lines name names log chain nets bsdl board rows on denotes holds =
-      prints run is (Groups name names) on.0 (log ∷ chain ∷ nets ∷ bsdl) on.1 _ refl _ (λ line gives. sound gives)
+  finds_groups lines names log chain nets bsdl board rows on denotes holds =
+      prints run is (Groups names) on.0 (log ∷ chain ∷ nets ∷ bsdl) on.1 _ refl _ (λ line gives. sound gives)
       (λ text gives worth.
       let told = subst (λ (b : RawBoard). FindsOne log b text) (same_board chain nets bsdl board worth.0 denotes worth.1) worth.2 in
       let same : told.rows ≡ rows = same_ok (sym told.read ∙ read) in (
@@ -217,11 +217,11 @@ module _ (run : Run) (is : IsRun run) (one : SayOne) where
       read : walk_log log board ≡ Ok rows
       read = (lines.walk chain nets bsdl board log rows denotes).1 holds
 
-      sound : {line : Text} → GivesOutcome (Groups name names) (log ∷ chain ∷ nets ∷ bsdl) (Err line) → ⊥
+      sound : {line : Text} → GivesOutcome (Groups names) (log ∷ chain ∷ nets ∷ bsdl) (Err line) → ⊥
       sound (inl (fault, found, e)) = not_both (one.board chain nets bsdl (Ok board) (Err fault) denotes found)
       sound (inr (other, also, fault, fails, e)) = read_well walk_log log chain nets bsdl board rows denotes read other fault also fails
 
   pub rests_on_walk_log : LinesAreRead → RestsOnWalkLog run
-  rests_on_walk_log lines name names log chain nets bsdl on ended =
-      let gives = (gives_text run is (Groups name names) on.0 (log ∷ chain ∷ nets ∷ bsdl) on.1 ended).1 in
+  rests_on_walk_log lines names log chain nets bsdl on ended =
+      let gives = (gives_text run is (Groups names) on.0 (log ∷ chain ∷ nets ∷ bsdl) on.1 ended).1 in
       (gives.0, gives.1, gives.2, (lines.walk chain nets bsdl gives.0 log gives.2 gives.1).0 gives.3)

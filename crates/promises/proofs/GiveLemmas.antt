@@ -28,7 +28,7 @@ use Rattle.refusal_lines.specs.Refusals.{Names, input_fault_line, log_fault_line
 use Rattle.commands.specs.LogRead.{Judging, OnDenoted, Input, Log, Batch as OfBatch, diagnosing, diagnosis_text, grouping, grouping_text, judging_each, verdicts_text, test_rows, walk_rows}
 use Rattle.command_line.specs.declared.command.Command.TheVariants.{Chain, Ident, Device, Cover, Svf, Walk, Make, Diagnose, Groups, Batch}
 use Rattle.command_line.specs.Words.{Text, Command}
-use Rattle.commands.specs.Requests.{board_texts, chain_texts}
+use Rattle.commands.specs.Requests.{board_texts, chain_texts, log_texts}
 use Rattle.btest_cli.specs.Refusals.{roles_of, text_fault_line}
 use Rattle.btest_cli.specs.Texts.{Read}
 use Rattle.btest_cli.specs.Outcome.{IsGiven, IsOutcome, IsSaid}
@@ -157,37 +157,37 @@ gives_is (Make parts) texts outcome gives = (
       (record { log = []; chain = codes "chain"; nets = codes "nets"; bsdl = codes "bsdl" ∷ [] })
       outcome gives,
 )
-gives_is (Diagnose workers log names) [] outcome gives = absurd gives
-gives_is (Diagnose workers log names) (rows ∷ []) outcome gives = absurd gives
-gives_is (Diagnose workers log names) (rows ∷ chain ∷ []) outcome gives = absurd gives
-gives_is (Diagnose workers log names) (rows ∷ chain ∷ nets ∷ bsdl) outcome gives = (
-  Diagnose workers rows (board_texts chain nets bsdl),
+gives_is (Diagnose workers names) [] outcome gives = absurd gives
+gives_is (Diagnose workers names) (rows ∷ []) outcome gives = absurd gives
+gives_is (Diagnose workers names) (rows ∷ chain ∷ []) outcome gives = absurd gives
+gives_is (Diagnose workers names) (rows ∷ chain ∷ nets ∷ bsdl) outcome gives = (
+  Diagnose workers (log_texts rows chain nets bsdl),
   refl,
   logs_said diagnosing (λ board log (found : Diagnosis). IsDiagnosis board log found.0 found.1)
       (λ board log (found : Diagnosis). diag_text board found.0 found.1) diagnosis_text
-      (λ board fault. log_fault_line log (test_rows board) fault) (of_board log names)
+      (λ board fault. log_fault_line names.log (test_rows board) fault) (of_board names.log names.board)
       (λ board fault. refl) (λ board log found is. (found, is, refl))
       (λ board log found is. (found, is, refl)) rows chain nets bsdl outcome gives,
 )
-gives_is (Groups log names) [] outcome gives = absurd gives
-gives_is (Groups log names) (rows ∷ []) outcome gives = absurd gives
-gives_is (Groups log names) (rows ∷ chain ∷ []) outcome gives = absurd gives
-gives_is (Groups log names) (rows ∷ chain ∷ nets ∷ bsdl) outcome gives = (
-  Groups rows (board_texts chain nets bsdl),
+gives_is (Groups names) [] outcome gives = absurd gives
+gives_is (Groups names) (rows ∷ []) outcome gives = absurd gives
+gives_is (Groups names) (rows ∷ chain ∷ []) outcome gives = absurd gives
+gives_is (Groups names) (rows ∷ chain ∷ nets ∷ bsdl) outcome gives = (
+  Groups (log_texts rows chain nets bsdl),
   refl,
   logs_said grouping AreFound (λ board log found. groups_text board found) grouping_text
-      (λ board fault. log_fault_line log (walk_rows board) fault) (of_board log names)
+      (λ board fault. log_fault_line names.log (walk_rows board) fault) (of_board names.log names.board)
       (λ board fault. refl) (λ board log found is. (found, is, refl))
       (λ board log found is. (found, is, refl)) rows chain nets bsdl outcome gives,
 )
-gives_is (Batch workers log names) [] outcome gives = absurd gives
-gives_is (Batch workers log names) (rows ∷ []) outcome gives = absurd gives
-gives_is (Batch workers log names) (rows ∷ chain ∷ []) outcome gives = absurd gives
-gives_is (Batch workers log names) (rows ∷ chain ∷ nets ∷ bsdl) outcome gives = (
-  Batch workers rows (board_texts chain nets bsdl),
+gives_is (Batch workers names) [] outcome gives = absurd gives
+gives_is (Batch workers names) (rows ∷ []) outcome gives = absurd gives
+gives_is (Batch workers names) (rows ∷ chain ∷ []) outcome gives = absurd gives
+gives_is (Batch workers names) (rows ∷ chain ∷ nets ∷ bsdl) outcome gives = (
+  Batch workers (log_texts rows chain nets bsdl),
   refl,
   logs_said judging_each AreVerdicts batch_text verdicts_text
-      (λ board fault. batch_fault_line log (test_rows board) fault) (of_board log names)
+      (λ board fault. batch_fault_line names.log (test_rows board) fault) (of_board names.log names.board)
       (λ board fault. refl) (λ board blocks verdicts is. ((blocks, verdicts), (refl, is), refl))
       each_back rows chain nets bsdl outcome gives,
 )
@@ -206,20 +206,20 @@ is_gives command texts outcome (asked, is, given) =
     (IsBoardRead (made.chain_file_text parts) (made.net_text parts) (bsdl_text ∷ [])) summary
     (record { log = []; chain = codes "chain"; nets = codes "nets"; bsdl = codes "bsdl" ∷ [] })
     outcome given)
-    (λ workers log names rows chain nets bsdl given. logs_found diagnosing
+    (λ workers names rows chain nets bsdl given. logs_found diagnosing
     (λ board log (found : Diagnosis). IsDiagnosis board log found.0 found.1)
     (λ board log (found : Diagnosis). diag_text board found.0 found.1) diagnosis_text
-    (λ board fault. log_fault_line log (test_rows board) fault) (of_board log names)
+    (λ board fault. log_fault_line names.log (test_rows board) fault) (of_board names.log names.board)
     (λ board fault. refl) (λ board log found is. (found, is, refl))
     (λ board log found is. (found, is, refl)) rows chain nets bsdl outcome given)
-    (λ log names rows chain nets bsdl given. logs_found grouping AreFound
+    (λ names rows chain nets bsdl given. logs_found grouping AreFound
     (λ board log found. groups_text board found) grouping_text
-    (λ board fault. log_fault_line log (walk_rows board) fault) (of_board log names)
+    (λ board fault. log_fault_line names.log (walk_rows board) fault) (of_board names.log names.board)
     (λ board fault. refl) (λ board log found is. (found, is, refl))
     (λ board log found is. (found, is, refl)) rows chain nets bsdl outcome given)
-    (λ workers log names rows chain nets bsdl given. logs_found judging_each AreVerdicts batch_text
-    verdicts_text (λ board fault. batch_fault_line log (test_rows board) fault)
-    (of_board log names) (λ board fault. refl)
+    (λ workers names rows chain nets bsdl given. logs_found judging_each AreVerdicts batch_text
+    verdicts_text (λ board fault. batch_fault_line names.log (test_rows board) fault)
+    (of_board names.log names.board) (λ board fault. refl)
     (λ board blocks verdicts is. ((blocks, verdicts), (refl, is), refl)) each_back rows chain
     nets bsdl outcome given)
     command texts asked is given

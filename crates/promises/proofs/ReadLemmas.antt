@@ -18,9 +18,9 @@ files_are (Cover names) = refl
 files_are (Svf names) = refl
 files_are (Walk names) = refl
 files_are (Make parts) = refl
-files_are (Diagnose workers log names) = refl
-files_are (Groups log names) = refl
-files_are (Batch workers log names) = refl
+files_are (Diagnose workers names) = refl
+files_are (Groups names) = refl
+files_are (Batch workers names) = refl
 
 then_rest : (file : Wanted) (text : Text) (rest : Option Reading) → length text ≤ file.limit
     → read_first file (Some text) rest ≡ and_text text rest

@@ -41,7 +41,7 @@ use Rattle.btest_core.specs.DevicesRead.{IsDeviceText}
 use Rattle.btest_core.specs.BoardRead.{AreChainLengths, AreLengths, Denotes}
 use Rattle.btest_core.specs.IdentsRead.{AreIdents}
 use Rattle.command_line.specs.declared.command.Command.TheVariants.{Ident, Cover, Walk, Diagnose, Groups, Batch}
-use Rattle.command_line.specs.Words.{Text, ChainNames, BoardNames, Command}
+use Rattle.command_line.specs.Words.{Text, ChainNames, BoardNames, LogNames, Command}
 use Rattle.btest_cli.specs.Texts.{Held}
 use Rattle.btest_cli.specs.declared.status.Status.{Status}
 use Rattle.btest_cli.specs.declared.status.Status.TheVariants.{Done, WriteFault}
@@ -57,6 +57,10 @@ chain_names = record { chain = codes "c"; bsdl = codes "b" ∷ [] }
 abbrev board_names : BoardNames
 board_names = record { chain = codes "c"; nets = codes "n"; bsdl = codes "b" ∷ [] }
 
+-- the names of a file of response logs and of the files of its board
+abbrev log_names : LogNames
+log_names = record { log = codes "g"; board = board_names }
+
 -- the names of the files that `chain` asks for
 abbrev chain_files : List Text
 chain_files = codes "c" ∷ codes "b" ∷ []
@@ -69,13 +73,13 @@ log_files = codes "g" ∷ board_files
 
 -- the command `diagnose` with one worker
 abbrev diagnose : Command
-diagnose = Diagnose 1 (codes "g") board_names
+diagnose = Diagnose 1 log_names
 
 abbrev batch : Command
-batch = Batch 1 (codes "g") board_names
+batch = Batch 1 log_names
 
 abbrev groups : Command
-groups = Groups (codes "g") board_names
+groups = Groups log_names
 
 -- the words of the command `diagnose`
 abbrev diagnose_words : List Text
@@ -240,7 +244,7 @@ module _ (held : Held) where
           × IsDiagnosed board rows pass faults × (text ≡ diag_text board pass faults)
       diagnosed text rows holds diagnoses =
           let told =
-          (diagnoses 1 (codes "g") board_names log lines nets bsdl board rows
+          (diagnoses 1 log_names log lines nets bsdl board rows
           (((codes "1", refl, (refl, omega arith)), refl), each) denotes holds).puts refl in
           (told.2.0, told.2.1, told.2.2, told.2.3, told.1 ∙ told.2.4)
 
@@ -254,7 +258,7 @@ module _ (held : Held) where
           blocks verdicts × (text ≡ batch_text board blocks verdicts)
       blocks_diagnosed text blocks holds diagnoses =
           let told =
-          (diagnoses 1 (codes "g") board_names logs lines nets bsdl board blocks
+          (diagnoses 1 log_names logs lines nets bsdl board blocks
           (((codes "1", refl, (refl, omega arith)), refl), each) denotes holds).puts refl in
           (told.2.0, told.2.1, told.2.2, told.1 ∙ told.2.3)
 
@@ -268,7 +272,7 @@ module _ (held : Held) where
           × ((groups : List (List ℕ)) → (found ≡ Some groups) ↔ Explain board rows groups)
       groups_found text rows holds finds =
           let told =
-          (finds (codes "g") board_names log lines nets bsdl board rows
+          (finds log_names log lines nets bsdl board rows
           (((refl, omega arith), refl), each) denotes holds).puts refl in
           (told.2.0, told.2.1, told.1 ∙ told.2.2, told.2.3)
 
@@ -280,7 +284,7 @@ module _ (held : Held) where
           → AgreeOn board (walk_row_list board) one other)
       groups_respond text rows holds finds groups are =
           let told =
-          (finds (codes "g") board_names log lines nets bsdl board rows
+          (finds log_names log lines nets bsdl board rows
           (((refl, omega arith), refl), each) denotes holds).puts refl in
           let one = told.2.4 groups are in
           (one.0, one.1, λ other explains. told.2.5 groups one.0 other one.1 explains)
@@ -303,7 +307,7 @@ module _ (held : Held) (lines nets : Text) (bsdl : List Text) (status : Status)
         → ((board : RawBoard) → Denotes lines nets bsdl board → ⊥)
         → RestsOnLog (run_of diagnose_words held status log_files text []) → ⊥
     diagnosed_without_board other rows holds none rests =
-        let told = rests 1 (codes "g") board_names log lines nets bsdl (((codes "1", refl, (refl, omega arith)), refl), each) ended in
+        let told = rests 1 log_names log lines nets bsdl (((codes "1", refl, (refl, omega arith)), refl), each) ended in
         none told.0 told.1
 
     diagnosed_without_log : (board : RawBoard) → Denotes lines nets bsdl board
@@ -311,7 +315,7 @@ module _ (held : Held) (lines nets : Text) (bsdl : List Text) (status : Status)
         → HoldsLog other (svf_row_scans other) log rows → ⊥)
         → RestsOnLog (run_of diagnose_words held status log_files text []) → ⊥
     diagnosed_without_log board denotes none rests =
-        let told = rests 1 (codes "g") board_names log lines nets bsdl (((codes "1", refl, (refl, omega arith)), refl), each) ended in
+        let told = rests 1 log_names log lines nets bsdl (((codes "1", refl, (refl, omega arith)), refl), each) ended in
         none told.0 told.2 told.1 told.3
 
   module _ (logs : Text) (each : HoldsEach held (files_of batch) (logs ∷ lines ∷ nets ∷ bsdl)) where
@@ -320,7 +324,7 @@ module _ (held : Held) (lines nets : Text) (bsdl : List Text) (status : Status)
         → ((board : RawBoard) → Denotes lines nets bsdl board → ⊥)
         → RestsOnBlocks (run_of batch_words held status log_files text []) → ⊥
     judged_without_board other blocks holds none rests =
-        let told = rests 1 (codes "g") board_names logs lines nets bsdl (((codes "1", refl, (refl, omega arith)), refl), each) ended in
+        let told = rests 1 log_names logs lines nets bsdl (((codes "1", refl, (refl, omega arith)), refl), each) ended in
         none told.0 told.1
 
     judged_without_blocks : (board : RawBoard) → Denotes lines nets bsdl board
@@ -328,7 +332,7 @@ module _ (held : Held) (lines nets : Text) (bsdl : List Text) (status : Status)
         → HoldsBoardBlocks other logs blocks → ⊥)
         → RestsOnBlocks (run_of batch_words held status log_files text []) → ⊥
     judged_without_blocks board denotes none rests =
-        let told = rests 1 (codes "g") board_names logs lines nets bsdl (((codes "1", refl, (refl, omega arith)), refl), each) ended in
+        let told = rests 1 log_names logs lines nets bsdl (((codes "1", refl, (refl, omega arith)), refl), each) ended in
         none told.0 told.2 told.1 told.3
 
   module _ (log : Text) (each : HoldsEach held (files_of groups) (log ∷ lines ∷ nets ∷ bsdl)) where
@@ -337,7 +341,7 @@ module _ (held : Held) (lines nets : Text) (bsdl : List Text) (status : Status)
         → ((board : RawBoard) → Denotes lines nets bsdl board → ⊥)
         → RestsOnWalkLog (run_of groups_words held status log_files text []) → ⊥
     grouped_without_board other rows holds none rests =
-        let told = rests (codes "g") board_names log lines nets bsdl (((refl, omega arith), refl), each) ended in
+        let told = rests log_names log lines nets bsdl (((refl, omega arith), refl), each) ended in
         none told.0 told.1
 
     grouped_without_log : (board : RawBoard) → Denotes lines nets bsdl board
@@ -345,7 +349,7 @@ module _ (held : Held) (lines nets : Text) (bsdl : List Text) (status : Status)
         → HoldsLog other (walk_row_list other) log rows → ⊥)
         → RestsOnWalkLog (run_of groups_words held status log_files text []) → ⊥
     grouped_without_log board denotes none rests =
-        let told = rests (codes "g") board_names log lines nets bsdl (((refl, omega arith), refl), each) ended in
+        let told = rests log_names log lines nets bsdl (((refl, omega arith), refl), each) ended in
         none told.0 told.2 told.1 told.3
 
 -- Samples of diagnoses that are wrong for a log.

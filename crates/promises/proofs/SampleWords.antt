@@ -1,7 +1,7 @@
 -- Samples of words, worked out by hand: words that ask for each of the commands, and words that ask for no command.
 use Rattle.std.proofs.Common.{ℕ, List, [], ◌∷◌, replicate, codes, refl, arith}
 use Rattle.command_line.specs.declared.command.Command.TheVariants.{Chain, Ident, Device, Cover, Svf, Walk, Make, Diagnose, Groups, Batch}
-use Rattle.command_line.specs.Words.{Text, ChainNames, BoardNames, board_called, log_called}
+use Rattle.command_line.specs.Words.{Text, ChainNames, BoardNames, LogNames, board_called, log_called}
 use Rattle.btest_cli.specs.declared.status.Status.{Status}
 use Rattle.promises.specs.Runs.{HasWordsOf, AsksNothing, Ends, Run}
 use Rattle.promises.proofs.WordLemmas.{none_asked}
@@ -11,6 +11,10 @@ chain_names = record { chain = codes "c"; bsdl = codes "b" ∷ codes "d" ∷ [] 
 
 abbrev board_names : BoardNames
 board_names = record { chain = codes "c"; nets = codes "n"; bsdl = codes "b" ∷ [] }
+
+-- the names of a file of response logs and of the files of its board
+abbrev log_names : LogNames
+log_names = record { log = codes "g"; board = board_names }
 
 -- the names of a board's files, as words
 abbrev board_words : List Text
@@ -48,13 +52,13 @@ module _ (old new : Ends) (status : Status) where
   most_made_asked : HasWordsOf (run_with (codes "make" ∷ codes "255" ∷ [])) (Make 255)
   most_made_asked = ((codes "255", refl, refl), refl)
 
-  diagnose_asked : HasWordsOf (run_with (codes "diagnose" ∷ codes "64" ∷ codes "g" ∷ board_words)) (Diagnose 64 (codes "g") board_names)
+  diagnose_asked : HasWordsOf (run_with (codes "diagnose" ∷ codes "64" ∷ codes "g" ∷ board_words)) (Diagnose 64 log_names)
   diagnose_asked = ((codes "64", refl, (refl, omega arith)), refl)
 
-  groups_asked : HasWordsOf (run_with (codes "groups" ∷ codes "g" ∷ board_words)) (Groups (codes "g") board_names)
+  groups_asked : HasWordsOf (run_with (codes "groups" ∷ codes "g" ∷ board_words)) (Groups log_names)
   groups_asked = ((refl, omega arith), refl)
 
-  batch_asked : HasWordsOf (run_with (codes "batch" ∷ codes "1" ∷ codes "g" ∷ board_words)) (Batch 1 (codes "g") board_names)
+  batch_asked : HasWordsOf (run_with (codes "batch" ∷ codes "1" ∷ codes "g" ∷ board_words)) (Batch 1 log_names)
   batch_asked = ((codes "1", refl, (refl, omega arith)), refl)
 
   most_files_asked : HasWordsOf (run_with (tested 255))

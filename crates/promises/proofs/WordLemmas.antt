@@ -1,13 +1,13 @@
 -- Lemmas which say that the grammar makes a command of words if and only if the words ask for this command.
-use Rattle.std.proofs.Common.{◌≡◌, ◌∙◌, ◌≤◌, ℕ, Bool, true, false, List, [], ◌∷◌, ◌++◌, length, Option, Some, None, refl, sym, ap, subst, arith}
+use Rattle.std.proofs.Common.{◌≡◌, ◌∙◌, ◌≤◌, ℕ, Bool, true, false, List, [], ◌∷◌, ◌++◌, append_assoc, length, Option, Some, None, refl, sym, ap, subst, arith}
 use Rattle.std.specs.Prelude.{nat_le, codes, option_map, option_and_then, if◌then◌else◌, IfSome}
 use Rattle.std.specs.List.{list_all}
 use Rattle.std.specs.Str.{bytes_eq}
 use Rattle.std.proofs.lemmas.Grind.{common_steps}
 use Rattle.std.proofs.lemmas.Slice.Eq.{bytes_eq-Decides}
 use Rattle.command_line.specs.declared.command.Command.TheVariants.{Chain, Ident, Device, Cover, Svf, Walk, Make, Diagnose, Groups, Batch}
-use Rattle.command_line.specs.Words.{Text, ChainNames, BoardNames, Command, batch_of, board_called, board_names_of, chain_of, command_of, device_of, diagnose_of, groups_of, is_plain, log_called, make_of, number_of, parsed, with_names, worked_of}
-use Rattle.promises.specs.Runs.{AreWords, HasWordsOf, AsksNothing, Run, ThenBoard, ThenChain}
+use Rattle.command_line.specs.Words.{Text, ChainNames, BoardNames, LogNames, Command, batch_of, board_called, board_names_of, chain_of, command_of, device_of, diagnose_of, is_plain, log_called, log_names_of, make_of, number_of, parsed, with_names, worked_of}
+use Rattle.promises.specs.Runs.{AreWords, HasWordsOf, AsksNothing, Run, ThenBoard, ThenChain, ThenLog}
 
 allowed : (n : ℕ) (b : Bool) → nat_le n 255 ≡ b → n ≤ 255 → b ≡ true
 allowed n true test few = refl
@@ -15,6 +15,14 @@ allowed n false test few = grind (arith, common_steps)
 
 named : {A : Type 0} (names : List Text) (value : A) → length names ≤ 255 → with_names names value ≡ Some value
 named names value few = ap (λ (b : Bool). if b then Some value else None) (allowed (length names) (nat_le (length names) 255) refl few)
+
+abbrev with_log : Text → BoardNames → LogNames
+with_log log board = record { log = log; board = board }
+
+-- if there are at most 255 BSDL files, the words of these names give the names
+named_log : (names : LogNames) → length names.board.bsdl ≤ 255
+    → option_map (with_log names.log) (with_names names.board.bsdl names.board) ≡ Some names
+named_log names few = ap (option_map (with_log names.log)) (named names.board.bsdl names.board few)
 
 parsed_is : (command : Command) (words : List Text) → AreWords command words → parsed words ≡ Some command
 unfolding board_called log_called
@@ -25,21 +33,21 @@ parsed_is (Cover names) words (are, few) = ap parsed are ∙ ap (option_map Cove
 parsed_is (Svf names) words (are, few) = ap parsed are ∙ ap (option_map Svf) (named names.bsdl names few)
 parsed_is (Walk names) words (are, few) = ap parsed are ∙ ap (option_map Walk) (named names.bsdl names few)
 parsed_is (Make parts) words (number, is, are) = ap parsed are ∙ ap (option_map Make) is
-parsed_is (Diagnose workers log names) words (number, is, (are, few)) =
+parsed_is (Diagnose workers names) words (number, is, (are, few)) =
     ap parsed are
     ∙ ap
     (option_and_then
-    (λ (board : BoardNames). option_map (λ (n : ℕ). Diagnose n log board)
-    (number_of 64 number))) (named names.bsdl names few)
-    ∙ ap (option_map (λ (n : ℕ). Diagnose n log names)) is
-parsed_is (Groups log names) words (are, few) = ap parsed are ∙ ap (option_map (Groups log)) (named names.bsdl names few)
-parsed_is (Batch workers log names) words (number, is, (are, few)) =
+    (λ (files : LogNames). option_map (λ (n : ℕ). Diagnose n files)
+    (number_of 64 number))) (named_log names few)
+    ∙ ap (option_map (λ (n : ℕ). Diagnose n names)) is
+parsed_is (Groups names) words (are, few) = ap parsed are ∙ ap (option_map Groups) (named_log names few)
+parsed_is (Batch workers names) words (number, is, (are, few)) =
     ap parsed are
     ∙ ap
     (option_and_then
-    (λ (board : BoardNames). option_map (λ (n : ℕ). Batch n log board)
-    (number_of 64 number))) (named names.bsdl names few)
-    ∙ ap (option_map (λ (n : ℕ). Batch n log names)) is
+    (λ (files : LogNames). option_map (λ (n : ℕ). Batch n files)
+    (number_of 64 number))) (named_log names few)
+    ∙ ap (option_map (λ (n : ℕ). Batch n names)) is
 
 pub command_is : (run : Run) (command : Command) → HasWordsOf run command → command_of run.words ≡ Some command
 command_is run command (are, plain) = ap (λ (b : Bool). if b then parsed run.words else None) plain ∙ parsed_is command run.words are
@@ -70,6 +78,16 @@ then_board front (chain ∷ nets ∷ names) = by_count (nat_le (length names) 25
     by_count true test = (refl, few (length names) test)
     by_count false test = tt
 
+then_log : (front words : List Text) → IfSome (log_names_of words) (λ names. ThenLog front names (front ++ words))
+then_log front [] = tt
+then_log front (log ∷ words) = by_board (board_names_of words) (then_board (front ++ log ∷ []) words)
+  where
+    by_board : (board : Option BoardNames)
+        → IfSome board (λ b. ThenBoard (front ++ log ∷ []) b ((front ++ log ∷ []) ++ words))
+        → IfSome (option_map (with_log log) board) (λ names. ThenLog front names (front ++ log ∷ words))
+    by_board None behind = tt
+    by_board (Some board) (are, few) = (sym (append_assoc front (log ∷ []) words) ∙ are, few)
+
 -- if there is a command, `words` are its words
 abbrev AreOf : List Text → Option Command → Type 0
 AreOf words command = IfSome command (λ c. AreWords c words)
@@ -94,43 +112,40 @@ of_make (number ∷ []) = by_number (number_of 255 number) refl
     by_number (Some parts) is = (number, is, refl)
 of_make (number ∷ other ∷ others) = tt
 
--- the words of a command with a number of workers, a log and a board
-abbrev AreWorked : (ℕ → Text → BoardNames → Command) → Text → Type 0
+-- the words of a command with a number of workers and the names of a file of response logs and of the files of its board
+abbrev AreWorked : (ℕ → LogNames → Command) → Text → Type 0
 AreWorked command name =
-    (number log : Text) (words : List Text) (workers : ℕ) (names : BoardNames)
+    (number : Text) (words : List Text) (workers : ℕ) (names : LogNames)
     → number_of 64 number ≡ Some workers
-    → ThenBoard (name ∷ number ∷ log ∷ []) names (name ∷ number ∷ log ∷ words)
-    → AreWords (command workers log names) (name ∷ number ∷ log ∷ words)
+    → ThenLog (name ∷ number ∷ []) names (name ∷ number ∷ words)
+    → AreWords (command workers names) (name ∷ number ∷ words)
 
-of_work : (command : ℕ → Text → BoardNames → Command) (name : Text) → AreWorked command name
+of_work : (command : ℕ → LogNames → Command) (name : Text) → AreWorked command name
     → (words : List Text) → AreOf (name ∷ words) (worked_of command words)
 of_work command name are [] = tt
-of_work command name are (number ∷ []) = tt
-of_work command name are (number ∷ log ∷ words) = by_names (board_names_of words) (then_board (name ∷ number ∷ log ∷ []) words)
+of_work command name are (number ∷ words) = by_names (log_names_of words) (then_log (name ∷ number ∷ []) words)
   where
-    by_number : (names : BoardNames)
-        → ThenBoard (name ∷ number ∷ log ∷ []) names (name ∷ number ∷ log ∷ words) → (n : Option ℕ)
+    by_number : (names : LogNames)
+        → ThenLog (name ∷ number ∷ []) names (name ∷ number ∷ words) → (n : Option ℕ)
         → number_of 64 number ≡ n
-        → AreOf (name ∷ number ∷ log ∷ words) (option_map (λ workers. command workers log names) n)
+        → AreOf (name ∷ number ∷ words) (option_map (λ workers. command workers names) n)
     by_number names behind None is = tt
-    by_number names behind (Some workers) is = are number log words workers names is behind
+    by_number names behind (Some workers) is = are number words workers names is behind
 
-    by_names : (names : Option BoardNames)
-        → IfSome names (λ n. ThenBoard (name ∷ number ∷ log ∷ []) n (name ∷ number ∷ log ∷ words))
-        → AreOf (name ∷ number ∷ log ∷ words)
+    by_names : (names : Option LogNames)
+        → IfSome names (λ n. ThenLog (name ∷ number ∷ []) n (name ∷ number ∷ words))
+        → AreOf (name ∷ number ∷ words)
         (option_and_then
-        (λ board. option_map (λ workers. command workers log board) (number_of 64 number))
+        (λ files. option_map (λ workers. command workers files) (number_of 64 number))
         names)
     by_names None behind = tt
     by_names (Some names) behind = by_number names behind (number_of 64 number) refl
 
-of_groups : (words : List Text) → AreOf (codes "groups" ∷ words) (groups_of words)
-of_groups [] = tt
-of_groups (log ∷ words) =
-    of_names (Groups log)
-    (λ names. ThenBoard (codes "groups" ∷ log ∷ []) names (codes "groups" ∷ log ∷ words))
-    (codes "groups" ∷ log ∷ words) (λ names is. is) (board_names_of words)
-    (then_board (codes "groups" ∷ log ∷ []) words)
+of_groups : (words : List Text) → AreOf (codes "groups" ∷ words) (option_map Groups (log_names_of words))
+of_groups words =
+    of_names Groups (λ names. ThenLog (codes "groups" ∷ []) names (codes "groups" ∷ words))
+    (codes "groups" ∷ words) (λ names is. is) (log_names_of words)
+    (then_log (codes "groups" ∷ []) words)
 
 of_board : (command : BoardNames → Command) (name : Text) (words : List Text)
     → ((names : BoardNames) → ThenBoard (name ∷ []) names (name ∷ words)
@@ -162,14 +177,14 @@ module _ (word : Text) (rest : List Text) where
   unfolding log_called
   log_words =
       let batch : Option Command = if bytes_eq (codes "batch") word then batch_of rest else None in
-      let groups : Option Command = if bytes_eq (codes "groups") word then groups_of rest else batch in
+      let groups : Option Command = if bytes_eq (codes "groups") word then option_map Groups (log_names_of rest) else batch in
       by_word (codes "diagnose") (diagnose_of rest) groups
       (of_work Diagnose (codes "diagnose")
-      (λ number log words workers names is behind. (number, is, behind)) rest)
-      (by_word (codes "groups") (groups_of rest) batch (of_groups rest)
+      (λ number words workers names is behind. (number, is, behind)) rest)
+      (by_word (codes "groups") (option_map Groups (log_names_of rest)) batch (of_groups rest)
       (by_word (codes "batch") (batch_of rest) None
       (of_work Batch (codes "batch")
-      (λ number log words workers names is behind. (number, is, behind)) rest) tt))
+      (λ number words workers names is behind. (number, is, behind)) rest) tt))
 
   board_words : AreOf (word ∷ rest) (board_called word rest)
   unfolding board_called

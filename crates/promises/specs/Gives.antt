@@ -76,18 +76,18 @@ GivesOutcome (Make parts) texts outcome =
     Finds (IsBoardRead (made.chain_file_text parts) (made.net_text parts) (bsdl_text ∷ [])) summary
     (record { log = []; chain = codes "chain"; nets = codes "nets"; bsdl = codes "bsdl" ∷ [] })
     outcome
-GivesOutcome (Diagnose workers log names) (rows ∷ chain ∷ nets ∷ bsdl) outcome =
+GivesOutcome (Diagnose workers names) (rows ∷ chain ∷ nets ∷ bsdl) outcome =
     FindsLogs test_log
     (λ board log (found : Bool × List Single). IsDiagnosis board log found.0 found.1)
     (λ board log (found : Bool × List Single). diag_text board found.0 found.1)
-    (λ board fault. log_fault_line log (test_rows board) fault) (of_board log names) rows chain
+    (λ board fault. log_fault_line names.log (test_rows board) fault) (of_board names.log names.board) rows chain
     nets bsdl outcome
-GivesOutcome (Groups log names) (rows ∷ chain ∷ nets ∷ bsdl) outcome =
+GivesOutcome (Groups names) (rows ∷ chain ∷ nets ∷ bsdl) outcome =
     FindsLogs walk_log AreFound (λ board log found. groups_text board found)
-    (λ board fault. log_fault_line log (walk_rows board) fault) (of_board log names) rows chain
+    (λ board fault. log_fault_line names.log (walk_rows board) fault) (of_board names.log names.board) rows chain
     nets bsdl outcome
-GivesOutcome (Batch workers log names) (rows ∷ chain ∷ nets ∷ bsdl) outcome =
+GivesOutcome (Batch workers names) (rows ∷ chain ∷ nets ∷ bsdl) outcome =
     FindsLogs test_blocks AreVerdicts batch_text
-    (λ board fault. batch_fault_line log (test_rows board) fault) (of_board log names) rows
+    (λ board fault. batch_fault_line names.log (test_rows board) fault) (of_board names.log names.board) rows
     chain nets bsdl outcome
 GivesOutcome command texts outcome = ⊥

@@ -40,7 +40,7 @@ use Rattle.btest_core.specs.BoardRead.{AreChainLengths, AreLengths, Denotes}
 use Rattle.btest_core.specs.IdentsRead.{AreIdents}
 use Rattle.refusal_lines.specs.Refusals.{usage_line, long_line, read_line, write_line, memory_line}
 use Rattle.command_line.specs.declared.command.Command.TheVariants.{Chain, Ident, Device, Cover, Svf, Walk, Make, Diagnose, Groups, Batch}
-use Rattle.command_line.specs.Words.{Text, ChainNames, BoardNames, Command, names_in_command}
+use Rattle.command_line.specs.Words.{Text, ChainNames, BoardNames, LogNames, Command, names_in_command}
 use Rattle.btest_cli.specs.Texts.{Wanted}
 use Rattle.btest_cli.specs.declared.status.Status.TheVariants.{Done, Refused, Usage, ReadFault, WriteFault, NoMemory}
 use Rattle.promises.specs.Runs.{Run, HasWordsOf, AsksNothing, RunsOn, HoldsEach, IsTooLong, NoReadFailed, EndsWith, AskedInTurn, PutsOut, PutsNothing, Notes, PrintsText, files_of}
@@ -135,37 +135,37 @@ pub record IsDiagnosed (board : RawBoard) (log : List (List Bool)) (pass : Bool)
 -- faults that explain it.
 abbrev pub DiagnosesLog : Run → Type 0
 DiagnosesLog run =
-    (workers : ℕ) (name : Text) (names : BoardNames) (log chain nets : Text) (bsdl : List Text)
+    (workers : ℕ) (names : LogNames) (log chain nets : Text) (bsdl : List Text)
     (board : RawBoard) (rows : List (List Bool)) →
-    RunsOn run (Diagnose workers name names) (log ∷ chain ∷ nets ∷ bsdl)
+    RunsOn run (Diagnose workers names) (log ∷ chain ∷ nets ∷ bsdl)
     → Denotes chain nets bsdl board → HoldsLog board (svf_row_scans board) log rows →
-    PrintsText run (Diagnose workers name names)
+    PrintsText run (Diagnose workers names)
     (λ text. HasResponses board × (pass : Bool) × (faults : List Single)
     × IsDiagnosed board rows pass faults × (text ≡ diag_text board pass faults))
 
 -- `diagnose` prints a text, in whole or in part, only if the files denote a board and the log is a log of the board's test.
 abbrev pub RestsOnLog : Run → Type 0
 RestsOnLog run =
-    (workers : ℕ) (name : Text) (names : BoardNames) (log chain nets : Text) (bsdl : List Text) →
-    RunsOn run (Diagnose workers name names) (log ∷ chain ∷ nets ∷ bsdl) → (run.status ≡ Done) ⊎ (run.status ≡ WriteFault) →
+    (workers : ℕ) (names : LogNames) (log chain nets : Text) (bsdl : List Text) →
+    RunsOn run (Diagnose workers names) (log ∷ chain ∷ nets ∷ bsdl) → (run.status ≡ Done) ⊎ (run.status ≡ WriteFault) →
     (board : RawBoard) × Denotes chain nets bsdl board × (rows : List (List Bool)) × HoldsLog board (svf_row_scans board) log rows
 
 -- `batch`: if the file holds blocks with logs of the board's test, the printed text has a title and a diagnosis for
 -- each block, in the order of the blocks. The diagnosis of a block depends on the block's log alone.
 abbrev pub DiagnosesBlocks : Run → Type 0
 DiagnosesBlocks run =
-    (workers : ℕ) (name : Text) (names : BoardNames) (logs chain nets : Text) (bsdl : List Text) (board : RawBoard) (blocks : List Block) →
-    RunsOn run (Batch workers name names) (logs ∷ chain ∷ nets ∷ bsdl)
+    (workers : ℕ) (names : LogNames) (logs chain nets : Text) (bsdl : List Text) (board : RawBoard) (blocks : List Block) →
+    RunsOn run (Batch workers names) (logs ∷ chain ∷ nets ∷ bsdl)
     → Denotes chain nets bsdl board → HoldsBoardBlocks board logs blocks →
-    PrintsText run (Batch workers name names) (λ text. HasResponses board × (verdicts : List Verdict)
+    PrintsText run (Batch workers names) (λ text. HasResponses board × (verdicts : List Verdict)
     × EachPair (λ block verdict. IsDiagnosed board block.log verdict.pass verdict.faults) blocks
     verdicts × (text ≡ batch_text board blocks verdicts))
 
 -- `batch` prints a text, in whole or in part, only if the files denote a board and the text holds blocks with logs of the board's test.
 abbrev pub RestsOnBlocks : Run → Type 0
 RestsOnBlocks run =
-    (workers : ℕ) (name : Text) (names : BoardNames) (logs chain nets : Text) (bsdl : List Text) →
-    RunsOn run (Batch workers name names) (logs ∷ chain ∷ nets ∷ bsdl) → (run.status ≡ Done) ⊎ (run.status ≡ WriteFault) →
+    (workers : ℕ) (names : LogNames) (logs chain nets : Text) (bsdl : List Text) →
+    RunsOn run (Batch workers names) (logs ∷ chain ∷ nets ∷ bsdl) → (run.status ≡ Done) ⊎ (run.status ≡ WriteFault) →
     (board : RawBoard) × Denotes chain nets bsdl board × (blocks : List Block) × HoldsBoardBlocks board logs blocks
 
 -- `groups`: if the file holds a log of the walking test, the printed text names the only set of groups of walk nets that explains the log,
@@ -173,10 +173,10 @@ RestsOnBlocks run =
 -- such a short, a 1 wins. Each set explains some log, and all logs that one set explains have the same compared bits.
 abbrev pub FindsGroups : Run → Type 0
 FindsGroups run =
-    (name : Text) (names : BoardNames) (log chain nets : Text) (bsdl : List Text) (board : RawBoard) (rows : List (List Bool)) →
-    RunsOn run (Groups name names) (log ∷ chain ∷ nets ∷ bsdl) → Denotes chain nets bsdl board
+    (names : LogNames) (log chain nets : Text) (bsdl : List Text) (board : RawBoard) (rows : List (List Bool)) →
+    RunsOn run (Groups names) (log ∷ chain ∷ nets ∷ bsdl) → Denotes chain nets bsdl board
     → HoldsLog board (walk_row_list board) log rows →
-    PrintsText run (Groups name names) (λ text. (meaning (board_walk_text board) ≡ Some (test_clocks (walk_scans board)))
+    PrintsText run (Groups names) (λ text. (meaning (board_walk_text board) ≡ Some (test_clocks (walk_scans board)))
     × (found : Option (List (List ℕ))) × (text ≡ groups_text board found)
     × ((groups : List (List ℕ)) → (found ≡ Some groups) ↔ Explain board rows groups)
     × ((groups : List (List ℕ)) → AreGroups board groups → (other : List (List Bool)) × Explain board other groups)
@@ -187,8 +187,8 @@ FindsGroups run =
 -- `groups` prints a text, in whole or in part, only if the files denote a board and the log is a log of its walking test.
 abbrev pub RestsOnWalkLog : Run → Type 0
 RestsOnWalkLog run =
-    (name : Text) (names : BoardNames) (log chain nets : Text) (bsdl : List Text) →
-    RunsOn run (Groups name names) (log ∷ chain ∷ nets ∷ bsdl) → (run.status ≡ Done) ⊎ (run.status ≡ WriteFault) →
+    (names : LogNames) (log chain nets : Text) (bsdl : List Text) →
+    RunsOn run (Groups names) (log ∷ chain ∷ nets ∷ bsdl) → (run.status ≡ Done) ⊎ (run.status ≡ WriteFault) →
     (board : RawBoard) × Denotes chain nets bsdl board × (rows : List (List Bool)) × HoldsLog board (walk_row_list board) log rows
 
 -- Unless memory ran out, the status is Usage if and only if the words ask for no command. For such words, the store stays unchanged. At

@@ -9,7 +9,7 @@ use Rattle.bt_base.specs.Memory.{asked_of, held_text, faults_of as read_faults}
 use Rattle.bt_base.specs.MemSink.{faults_of, taken_of}
 use Rattle.command_line.specs.declared.command.Command.TheVariants.{Chain, Ident, Device, Cover, Svf, Walk, Make, Diagnose, Groups, Batch}
 use Rattle.command_line.specs.Limits.{most_made}
-use Rattle.command_line.specs.Words.{Text, ChainNames, BoardNames, Command, is_plain, number_of, names_in_command, board_names}
+use Rattle.command_line.specs.Words.{Text, ChainNames, BoardNames, LogNames, Command, is_plain, number_of, names_in_command, board_names}
 use Rattle.btest_cli.specs.Texts.{Held, Wanted}
 use Rattle.btest_cli.specs.declared.status.Status.{Status}
 use Rattle.btest_cli.specs.declared.status.Status.TheVariants.{Done, NoMemory}
@@ -67,6 +67,10 @@ ThenChain front names words = (words ≡ front ++ names.chain ∷ names.bsdl) ×
 abbrev pub ThenBoard : List Text → BoardNames → List Text → Type 0
 ThenBoard front names words = (words ≡ front ++ names.chain ∷ names.nets ∷ names.bsdl) × (length names.bsdl ≤ 255)
 
+-- these words, then a file of response logs, a chain file, a net file and at most 255 BSDL files
+abbrev pub ThenLog : List Text → LogNames → List Text → Type 0
+ThenLog front names words = ThenBoard (front ++ names.log ∷ []) names.board words
+
 -- The words of each command. A generated board has 1 to 255 parts, and there are 1 to 64 workers.
 abbrev pub AreWords : Command → List Text → Type 0
 AreWords (Chain names) words = ThenChain (codes "chain" ∷ []) names words
@@ -76,13 +80,13 @@ AreWords (Cover names) words = ThenBoard (codes "cover" ∷ []) names words
 AreWords (Svf names) words = ThenBoard (codes "svf" ∷ []) names words
 AreWords (Walk names) words = ThenBoard (codes "walk" ∷ []) names words
 AreWords (Make parts) words = (number : Text) × (number_of most_made number ≡ Some parts) × (words ≡ codes "make" ∷ number ∷ [])
-AreWords (Diagnose workers log names) words =
+AreWords (Diagnose workers names) words =
     (number : Text) × (number_of 64 number ≡ Some workers)
-    × ThenBoard (codes "diagnose" ∷ number ∷ log ∷ []) names words
-AreWords (Groups log names) words = ThenBoard (codes "groups" ∷ log ∷ []) names words
-AreWords (Batch workers log names) words =
+    × ThenLog (codes "diagnose" ∷ number ∷ []) names words
+AreWords (Groups names) words = ThenLog (codes "groups" ∷ []) names words
+AreWords (Batch workers names) words =
     (number : Text) × (number_of 64 number ≡ Some workers)
-    × ThenBoard (codes "batch" ∷ number ∷ log ∷ []) names words
+    × ThenLog (codes "batch" ∷ number ∷ []) names words
 
 -- the run has the words of this command, and no word is empty or begins with a dash
 abbrev pub HasWordsOf : Run → Command → Type 0
@@ -96,12 +100,15 @@ AsksNothing run = (command : Command) → HasWordsOf run command → ⊥
 abbrev pub texts_called : List Text → List Wanted
 texts_called names = map (λ name. record { name = name; limit = 4194304 }) names
 
--- The files of a command with their limits, in the order in which a run asks for them. A file of logs may have up to 64
--- MiB.
+-- a file of response logs with at most 64 MiB, and then the files of its board
+abbrev pub logs_called : LogNames → List Wanted
+logs_called names = record { name = names.log; limit = 67108864 } ∷ texts_called (board_names names.board)
+
+-- the files of a command, in order
 abbrev pub files_of : Command → List Wanted
-files_of (Diagnose workers log names) = record { name = log; limit = 67108864 } ∷ texts_called (board_names names)
-files_of (Groups log names) = record { name = log; limit = 67108864 } ∷ texts_called (board_names names)
-files_of (Batch workers log names) = record { name = log; limit = 67108864 } ∷ texts_called (board_names names)
+files_of (Diagnose workers names) = logs_called names
+files_of (Groups names) = logs_called names
+files_of (Batch workers names) = logs_called names
 files_of command = texts_called (names_in_command command)
 
 -- the texts of the store are known, and the store holds this text under the name

@@ -2,8 +2,7 @@
 use Rattle.std.specs.Prelude.{◌≡◌, ℕ, ◌≤◌, List, [], ◌∷◌, ◌++◌, Some, Result, Ok, Err}
 use Rattle.bt_base.specs.Counts.{Rose}
 use Rattle.command_line.specs.Words.{Text, Command}
-use Rattle.commands.specs.Requests.{BoardTexts, ChainTexts, Request, request_of}
-use Rattle.commands.specs.declared.texts.LogTexts.{LogTexts}
+use Rattle.commands.specs.Requests.{BoardTexts, ChainTexts, LogTexts, Request, request_of}
 use Rattle.btest_cli.specs.declared.failure.Unread.{Unread}
 use Rattle.btest_cli.specs.declared.failure.Unread.TheVariants as unread
 use Rattle.btest_cli.specs.Texts.{Held, Wanted, Reading, Read, TooLong, Asks, IsRead, IsReadUpTo, names_in}

@@ -7,7 +7,7 @@ use Rattle.clap.specs.Walk.{Row, Text, all_of, first_of}
 use Rattle.clap.specs.declared.parser.matches.ArgMatches.{ArgMatches}
 use Rattle.command_line.specs.declared.command.Command.TheVariants.{Chain, Ident, Device, Cover, Svf, Walk, Make, Diagnose, Groups, Batch}
 use Rattle.command_line.specs.Limits.{most_made, most_workers}
-use Rattle.command_line.specs.Words.{ChainNames, BoardNames, Command, number_of, with_names}
+use Rattle.command_line.specs.Words.{ChainNames, BoardNames, LogNames, Command, number_of, with_names}
 
 -- the names of the BSDL files in the rows
 abbrev pub bsdl_in : List Row → List Text
@@ -32,6 +32,13 @@ board_in rows =
     (λ nets. option_map (λ bsdl. record { chain = chain; nets = nets; bsdl = bsdl })
     (few_in rows)) (first_of (codes "NETS") rows)) (first_of (codes "CHAIN") rows)
 
+-- the names of a file of response logs and of the files of its board in the matches
+abbrev pub log_in : List Row → Option LogNames
+log_in rows =
+    option_and_then
+    (λ log. option_map (λ board. record { log = log; board = board }) (board_in rows))
+    (first_of (codes "LOG") rows)
+
 -- the command `device` with the file name in the rows; `None` if there is no file name
 abbrev pub device_in : List Row → Option Command
 device_in rows = option_map Device (first_of (codes "BSDL") rows)
@@ -42,22 +49,18 @@ make_in rows = option_and_then (λ number. option_map Make (number_of most_made 
 abbrev pub workers_in : List Row → Option ℕ
 workers_in rows = option_and_then (number_of most_workers) (first_of (codes "WORKERS") rows)
 
-abbrev pub worked_in : (ℕ → Text → BoardNames → Command) → List Row → Option Command
+abbrev pub worked_in : (ℕ → LogNames → Command) → List Row → Option Command
 worked_in command rows =
     option_and_then
-    (λ log. option_and_then
-    (λ board. option_map (λ workers. command workers log board) (workers_in rows))
-    (board_in rows)) (first_of (codes "LOG") rows)
-
-abbrev pub groups_in : List Row → Option Command
-groups_in rows = option_and_then (λ log. option_map (Groups log) (board_in rows)) (first_of (codes "LOG") rows)
+    (λ files. option_map (λ workers. command workers files) (workers_in rows))
+    (log_in rows)
 
 -- the command of the subcommand with this name, if the name is `diagnose`, `groups` or `batch`;
 -- these commands read response logs
 unfoldable pub log_found : Text → List Row → Option Command
 log_found name rows =
     if bytes_eq (codes "diagnose") name then worked_in Diagnose rows else
-    if bytes_eq (codes "groups") name then groups_in rows else
+    if bytes_eq (codes "groups") name then option_map Groups (log_in rows) else
     if bytes_eq (codes "batch") name then worked_in Batch rows else None
 
 -- the command of the subcommand with this name, for all names except `chain`, `ident` and `device`

@@ -89,9 +89,9 @@ returns-in-Diagnose g c = λ names.
     subst
     (λ (r : Request). IsAnswered names r (g.K.Sink.shown c.args.out.now)
     (g.K.Sink.shown c.diagnosis.new.out) c.diagnosis.result) (sym c.in-Diagnose.is)
-    (log_answered names (Diagnose c.in-Diagnose.workers c.in-Diagnose.log c.in-Diagnose.board)
-    (IsJudgedOf diagnosing (record { log = c.in-Diagnose.log; board = c.in-Diagnose.board }))
-    diagnosis_text (OfDenoted (Diagnoses c.in-Diagnose.log) c.in-Diagnose.board) _ _ _
+    (log_answered names (Diagnose c.in-Diagnose.workers c.in-Diagnose.files)
+    (IsJudgedOf diagnosing c.in-Diagnose.files)
+    diagnosis_text (OfDenoted (Diagnoses c.in-Diagnose.files.log) c.in-Diagnose.files.board) _ _ _
     (λ o says. says) (λ text worth. worth) c.diagnosis.ensures)
 
 pub returns-in-Groups : goal.returns-in-Groups
@@ -99,9 +99,9 @@ returns-in-Groups g c = λ names.
     subst
     (λ (r : Request). IsAnswered names r (g.K.Sink.shown c.args.out.now)
     (g.K.Sink.shown c.groups.new.out) c.groups.result) (sym c.in-Groups.is)
-    (log_answered names (Groups c.in-Groups.log c.in-Groups.board)
-    (IsJudgedOf grouping (record { log = c.in-Groups.log; board = c.in-Groups.board }))
-    grouping_text (OfDenoted (IsGroupsText c.in-Groups.log) c.in-Groups.board) _ _ _
+    (log_answered names (Groups c.in-Groups.texts)
+    (IsJudgedOf grouping c.in-Groups.texts)
+    grouping_text (OfDenoted (IsGroupsText c.in-Groups.texts.log) c.in-Groups.texts.board) _ _ _
     (λ o says. says) (λ text worth. worth) c.groups.ensures)
 
 pub returns-in-Batch : goal.returns-in-Batch
@@ -109,7 +109,7 @@ returns-in-Batch g c = λ names.
     subst
     (λ (r : Request). IsAnswered names r (g.K.Sink.shown c.args.out.now)
     (g.K.Sink.shown c.batch.new.out) c.batch.result) (sym c.in-Batch.is)
-    (log_answered names (Batch c.in-Batch.workers c.in-Batch.log c.in-Batch.board)
-    (IsJudgedOf judging_each (record { log = c.in-Batch.log; board = c.in-Batch.board }))
-    verdicts_text (OfDenoted (DiagnosesEach c.in-Batch.log) c.in-Batch.board) _ _ _
+    (log_answered names (Batch c.in-Batch.workers c.in-Batch.files)
+    (IsJudgedOf judging_each c.in-Batch.files)
+    verdicts_text (OfDenoted (DiagnosesEach c.in-Batch.files.log) c.in-Batch.files.board) _ _ _
     (λ o says. says) (λ text worth. worth) c.batch.ensures)

@@ -1,6 +1,6 @@
 use Rattle.commands.specs.LogRead.{diagnosing, diagnosis_text}
 use Rattle.commands.specs.Worth.{Diagnoses, OfDenoted}
-use Rattle.commands.specs.declared.texts.LogTexts.{LogTexts}
+use Rattle.commands.specs.Requests.{LogTexts}
 use Rattle.commands.proofs.AnswerLemmas.{judged_denoted, no_board_judged}
 use Rattle.commands.proofs.log_diagnosis.diagnosis_of.Goals as goal
 

@@ -1,6 +1,6 @@
 use Rattle.commands.specs.LogRead.{grouping, grouping_text}
 use Rattle.commands.specs.Worth.{IsGroupsText, OfDenoted}
-use Rattle.commands.specs.declared.texts.LogTexts.{LogTexts}
+use Rattle.commands.specs.Requests.{LogTexts}
 use Rattle.commands.proofs.AnswerLemmas.{judged_denoted, no_board_judged}
 use Rattle.commands.proofs.log_groups.groups_of.Goals as goal
 
