@@ -14,10 +14,10 @@ use crate::block::Block;
 use crate::verdict::Verdict;
 use board_defs::{Board, Items};
 use bt_base::{Gate, OpenGate};
-use diagnoser::{Entered, Workers, diagnose_in};
+use diagnoser::{Entered, diagnose_in};
 use fault_sim::{BoardTest, KeptPass, LoggedTest, Universe};
 use scan_planner::Plan;
-use side_by_side::{Piece, in_pieces};
+use side_by_side::{Piece, Workers, in_pieces};
 use std::alloc::{AllocError, Global};
 use std::thread::Threads;
 

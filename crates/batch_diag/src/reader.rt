@@ -11,7 +11,7 @@ use crate::fault::BatchFault;
 use crate::lines::{UnreadBlock, list_blocks, start_fault, title_fault};
 use board_defs::Name;
 use response_log::{Log, LogFault, log};
-use side_by_side::{Piece, in_pieces};
+use side_by_side::{Piece, Workers, in_pieces};
 use std::alloc::Global;
 use std::thread::Threads;
 
@@ -36,20 +36,19 @@ pub fn blocks(alloc: Global, bytes: &[u8], rows: u64, len: u32) -> Result<Vec<Bl
     read_between(alloc, &reading, 0, count(&reading))
 }
 
-/// Like `blocks`, but reads the logs in as many pieces as there are workers. There must be at least one worker. The sizes of the pieces
-/// differ by at most one block. The first half of the pieces runs side by side with the second half, and each half is halved again in the
-/// same way, down to single pieces. If memory runs out for a block and no earlier block has a fault, the error is `Memory`. If memory runs
-/// out while the results of pieces are joined, the error is also `Memory`, even if a block has a fault.
+/// Like `blocks`, but reads the logs in as many pieces as there are workers. The sizes of the pieces differ by at most one block. The first
+/// half of the pieces runs side by side with the second half, and each half is halved again in the same way, down to single pieces. If
+/// memory runs out for a block and no earlier block has a fault, the error is `Memory`. If memory runs out while the results of pieces are
+/// joined, the error is also `Memory`, even if a block has a fault.
 pub fn blocks_by<R: Threads + Sync>(
     rt: &R,
     alloc: Global,
     bytes: &[u8],
     rows: u64,
     len: u32,
-    workers: u32,
+    workers: Workers,
 ) -> Result<Vec<Block>, BatchFault>
-    requires text { length bytes.now < 2 ^ 32 }
-    requires some { 1 ≤ workers }
+    requires { length bytes.now < 2 ^ 32 }
     ensures read { Gives batch_told (λ blocks. blocks.items)
         (λ said. blocks_of_text bytes.now rows len ≡ said) result }
     ensures size { IfOk result (λ blocks. All (λ block. HasSize rows len block.log) blocks.items) }
@@ -134,16 +133,14 @@ fn read_between(
     Ok(found)
 }
 
-// Reads all blocks in `pieces` pieces and returns them. Returns the fault of the first block whose lines are not a log, if there is one.
-// There must be at least one piece, and the blocks must satisfy `AreShortBlocks`.
+// Reads all blocks in as many pieces as there are workers and returns them. Returns the fault of the first block whose lines are not a log, if there is one.
 fn read_pieces<R: Threads + Sync>(
     rt: &R,
     alloc: Global,
     reading: &Reading<'_>,
-    pieces: u32,
+    workers: Workers,
 ) -> Result<Vec<Block>, BatchFault>
-    requires short { AreShortBlocks reading.now.unread.items }
-    requires some { 0 < pieces }
+    requires { AreShortBlocks reading.now.unread.items }
     ensures { AreBlocksRead (λ v. v.items) reading.now.rows reading.now.len (said_of reading.now)
         result }
 {
@@ -154,7 +151,7 @@ fn read_pieces<R: Threads + Sync>(
         ensures { AreBlocksRead (λ v. v.items) reading.entry.now.rows reading.entry.now.len
             (said_between reading.entry.now piece.first piece.end) result }
     { read_between(alloc, reading, piece.first as usize, piece.end as usize) };
-    in_pieces(rt, alloc, count, pieces, &read)
+    in_pieces(rt, alloc, count, workers.number(), &read)
 }
 
 // Reads the log of a block and returns the block. `board` is the number of the block, counted from 1. The sum of the title's line number

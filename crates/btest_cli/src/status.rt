@@ -9,7 +9,7 @@ pub enum Status {
     Done,
     /// The texts have a fault.
     Refused,
-    /// The words do not form a command.
+    /// The words form no command.
     Usage,
     /// A text was not read.
     ReadFault,

@@ -198,12 +198,8 @@ fn answer<R: Threads + Sync, K: Sink, G: Gate>(
         Command::Svf(texts) => svf(alloc, &texts, out),
         Command::Walk(texts) => walk(alloc, &texts, out),
         Command::Make(parts) => summary(alloc, parts, out),
-        Command::Diagnose { workers, files } => {
-            diagnosis(rt, alloc, files, workers.number(), gate, out)
-        }
+        Command::Diagnose { workers, files } => diagnosis(rt, alloc, files, workers, gate, out),
         Command::Groups(texts) => groups(alloc, texts, out),
-        Command::Batch { workers, files } => {
-            batch(rt, alloc, files, workers.number(), gate, out)
-        }
+        Command::Batch { workers, files } => batch(rt, alloc, &files, workers, gate, out),
     }
 }

@@ -4,6 +4,7 @@ ghost use Rattle.std.specs.Prelude.{◌<◌, ◌^◌, length};
 use crate::missed::{Missed, expect};
 use batch_diag::{BatchFault, Block, blocks, blocks_by};
 use response_log::{Log, log};
+use side_by_side::Workers;
 use std::alloc::{AllocError, Global};
 use std::thread::Threads;
 
@@ -115,21 +116,20 @@ fn shown(alloc: Global, blocks: &[Block]) -> Result<String, AllocError> {
     Ok(text)
 }
 
-// Reads a batch in `pieces` pieces, or as a whole if `pieces` is 0. Returns its blocks or its first fault as text. Each log has `rows` rows
-// of two bits. The text must be shorter than 2^32 bytes.
+// Reads a batch in as many pieces as there are workers, or as a whole if there are none. Returns its blocks or its first fault as text.
+// Each log has `rows` rows of two bits. The text must be shorter than 2^32 bytes.
 fn answer_in<R: Threads + Sync>(
     rt: &R,
     alloc: Global,
     text: &[u8],
     rows: u64,
-    pieces: u32,
+    workers: Option<Workers>,
 ) -> Result<String, AllocError>
     requires { length text.now < 2 ^ 32 }
 {
-    let read = if pieces == 0 {
-        blocks(alloc, text, rows, 2)
-    } else {
-        blocks_by(rt, alloc, text, rows, 2, pieces)
+    let read = match workers {
+        None => blocks(alloc, text, rows, 2),
+        Some(workers) => blocks_by(rt, alloc, text, rows, 2, workers),
     };
     match read {
         Ok(blocks) => shown(alloc, &blocks),
@@ -149,12 +149,13 @@ fn answers<R: Threads + Sync>(
     if text.len() >= 1000 {
         return Ok(false);
     }
-    for pieces in [0, 1, 2, 3, 64] {
-        if answer_in(rt, alloc, text, rows, pieces)?.as_str() != wanted {
+    for number in [1, 2, 3, 64] {
+        let workers = Some(Workers::of(number));
+        if answer_in(rt, alloc, text, rows, workers)?.as_str() != wanted {
             return Ok(false);
         }
     }
-    Ok(true)
+    Ok(answer_in(rt, alloc, text, rows, None)?.as_str() == wanted)
 }
 
 // The text of a batch, the number of rows that each log must have, and the blocks or the first fault of the batch, as text.

@@ -13,8 +13,9 @@ use Rattle.clap.specs.Simple.{App, Shape, built, names_of, entered, is_simple, s
 use Rattle.clap.specs.Kinds.{Kinds, IsAmong, or_else}
 use Rattle.clap.specs.Faults.{other_fault, step_fault, fault_of, level_fault, entered_fault, walk_fault, turn_fault, is_simple_and_free}
 use Rattle.clap.proofs.OnLiterals.{clap_on_literals}
+use Rattle.side_by_side.specs.Workers.{most_workers}
 use Rattle.command_line.specs.declared.command.Command.TheVariants.{Chain, Ident, Cover, Svf, Walk, Diagnose, Groups, Batch}
-use Rattle.command_line.specs.Limits.{most_names, most_workers}
+use Rattle.command_line.specs.Limits.{most_names}
 use Rattle.command_line.specs.Words.{number_of, with_names, ChainNames, BoardNames, LogNames, Command, is_plain, parsed, board_called, log_called, chain_of, device_of, board_names_of, log_names_of, make_of, worked_of}
 use Rattle.command_line.specs.Grammar.{board_words}
 use Rattle.command_line.specs.inner.App.{btest_app, names_rule, top_app, worded_app}

@@ -8,7 +8,3 @@ most_names = 255
 -- the largest number of parts that `make` accepts
 abbrev pub most_made : ℕ
 most_made = 255
-
--- the largest number of workers that a command accepts
-abbrev pub most_workers : ℕ
-most_workers = 64

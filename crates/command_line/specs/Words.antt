@@ -4,12 +4,13 @@ use Rattle.std.specs.Char.{is_ascii_digit}
 use Rattle.std.specs.List.{list_all}
 use Rattle.std.specs.Str.{bytes_eq}
 use Rattle.std.specs.Str.Parse.{digits_value}
+use Rattle.side_by_side.specs.Workers.{most_workers}
 use Rattle.command_line.specs.declared.command.Command.{Command as CommandOf}
 use Rattle.command_line.specs.declared.command.BoardFiles.{BoardFiles}
 use Rattle.command_line.specs.declared.command.ChainFiles.{ChainFiles}
 use Rattle.command_line.specs.declared.command.LogFiles.{LogFiles}
 use Rattle.command_line.specs.declared.command.Command.TheVariants.{Chain, Ident, Device, Cover, Svf, Walk, Make, Diagnose, Groups, Batch}
-use Rattle.command_line.specs.Limits.{most_names, most_made, most_workers}
+use Rattle.command_line.specs.Limits.{most_names, most_made}
 
 abbrev pub Text : Type 0
 Text = List ℕ

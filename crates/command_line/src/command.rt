@@ -1,5 +1,6 @@
 // The commands of the program.
-use crate::number::{PartCount, WorkerCount};
+use crate::number::PartCount;
+use side_by_side::Workers;
 
 /// The files of a command that reads a chain.
 #[derive(Drop)]
@@ -51,7 +52,7 @@ pub enum Command<File, Files> {
     /// Diagnoses a board.
     Diagnose {
         /// The number of threads that work on the diagnosis.
-        workers: WorkerCount,
+        workers: Workers,
         /// The response log and the files of the board.
         files: LogFiles<File, Files>,
     },
@@ -60,7 +61,7 @@ pub enum Command<File, Files> {
     /// Diagnoses many boards of the same design.
     Batch {
         /// The number of threads that work on the diagnoses.
-        workers: WorkerCount,
+        workers: Workers,
         /// The file with the response logs of the boards, and the files of the design.
         files: LogFiles<File, Files>,
     },

@@ -11,8 +11,9 @@ use crate::command::{BoardFiles, ChainFiles, Command, LogFiles};
 use crate::names::{
     BoardNames, BsdlNames, ChainNames, FileName, LogNames, MOST_NAMES, NamedCommand,
 };
-use crate::number::{PartCount, WorkerCount};
+use crate::number::{PartCount, workers_of};
 use clap::ArgMatches;
+use side_by_side::Workers;
 use std::alloc::{AllocError, Global};
 
 /// Returns the command that `clap` found. Returns `None` if there is no such command, an argument is
@@ -266,10 +267,10 @@ fn make_command<'a>(found: &ArgMatches<'a>) -> Option<NamedCommand<'a>>
 }
 
 // Returns the number of workers, or `None` if it is missing or out of range.
-fn workers_in(found: &ArgMatches) -> Option<WorkerCount>
+fn workers_in(found: &ArgMatches) -> Option<Workers>
     ensures { result ≡ workers_in (rows_of (found_of found.now)) }
 {
-    WorkerCount::of_word(word_in(found, "WORKERS")?)
+    workers_of(word_in(found, "WORKERS")?)
 }
 
 // Returns the command `diagnose`, or `None` if an argument is missing, the number of workers is out of range, or there are more

@@ -10,5 +10,5 @@ mod words;
 
 pub use command::{BoardFiles, ChainFiles, Command, LogFiles};
 pub use names::{BoardNames, BsdlNames, ChainNames, FileName, LogNames, NamedCommand};
-pub use number::{PartCount, WorkerCount};
+pub use number::PartCount;
 pub use words::command_of;

@@ -2,9 +2,11 @@
 ghost use Rattle.std.specs.Prelude.{◌≡◌, ◌≤◌, IfSome};
 ghost use Rattle.std.specs.Char.{is_ascii_digit};
 ghost use Rattle.std.specs.List.{list_all};
-ghost use Rattle.command_line.specs.Limits.{most_made, most_workers};
+ghost use Rattle.side_by_side.specs.Workers.{most_workers};
+ghost use Rattle.command_line.specs.Limits.{most_made};
 ghost use Rattle.command_line.specs.Words.{number_of};
 
+use side_by_side::{MOST_WORKERS, Workers};
 use std::marker::Model;
 
 /// The largest number of digits of a number.
@@ -12,9 +14,6 @@ const MOST_DIGITS: usize = 20;
 
 // The largest number of parts of a generated board.
 const MOST_MADE: u32 = 255;
-
-// The largest number of workers.
-const MOST_WORKERS: u32 = 64;
 
 /// The number of parts of a generated board, from 1 to 255.
 #[derive(Clone, Copy)]
@@ -55,43 +54,12 @@ impl PartCount {
     }
 }
 
-/// The number of threads that work on diagnoses, from 1 to 64.
-#[derive(Clone, Copy)]
-pub struct WorkerCount {
-    number: u32,
-}
-
-impl Model for WorkerCount {
-    ghost use Rattle.std.specs.Prelude.{ℕ, ◌≤◌};
-    ghost use Rattle.command_line.specs.Limits.{most_workers};
-
-    ghost Value = { ℕ };
-
-    ghost view = { λ count. count.number };
-
-    ghost invariant = { λ count. (1 ≤ count.number) × (count.number ≤ most_workers) };
-
-    ghost inverse = { λ count. record { number = count } };
-}
-
-impl WorkerCount {
-    /// Returns the number of workers that a word denotes, or `None` if the word is not a number
-    /// from 1 to 64.
-    pub fn of_word(word: &str) -> Option<WorkerCount>
-        ensures { result ≡ number_of most_workers word.now }
-    {
-        let number = number_of(MOST_WORKERS, word)?;
-        Some(WorkerCount { number })
-    }
-
-    /// Returns the number of threads, from 1 to 64.
-    pub fn number(self) -> u32
-        ensures value { result ≡ self }
-        ensures some { 1 ≤ result }
-        ensures few { result ≤ most_workers }
-    {
-        self.number
-    }
+/// Returns the number of workers that a word denotes, or `None` if the word is no number from 1 to 64.
+pub fn workers_of(word: &str) -> Option<Workers>
+    ensures { result ≡ number_of most_workers word.now }
+{
+    let number = number_of(MOST_WORKERS, word)?;
+    Some(Workers::of(number))
 }
 
 // Returns the value of a word of 1 to 20 decimal digits. Returns `None` if the value is not from 1 to `most`, or if

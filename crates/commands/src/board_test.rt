@@ -189,9 +189,8 @@ fn write_scans<K: Sink>(
     write_tail(out)
 }
 
-// Writes scan `k` of a plan. `k` must be below the number of scans. `kept` and `rows` must have been made for the board of the test. If
-// `held` has a shape, `k` must not be 0, the rows must hold scan `k - 1`, and the shape must be the shape of that scan. Afterwards the rows
-// hold scan `k`, and `held` has its shape.
+// Writes scan `k` of a plan. If `held` has a shape before the call, the rows must hold scan `k - 1`, and this must be the shape of that
+// scan. After the call, the rows hold scan `k`, and `held` has the shape of scan `k`.
 fn write_scan_at<K: Sink>(
     test: &BoardPlan<'_>,
     k: u64,
@@ -220,9 +219,8 @@ fn write_scan_at<K: Sink>(
     write_scan(shape, &scan.tdi, &scan.tdo, &scan.mask, line, out)
 }
 
-// Fills the rows with scan `k` of a plan and returns its shape. `k` must be below the number of scans. `kept` and `rows` must have been
-// made for the board of the test. If `before` has a shape, `k` must not be 0, the rows must hold scan `k - 1`, and the shape must be the
-// shape of that scan. In that case the call is faster.
+// Fills the rows with scan `k` of a plan and returns the scan's shape. If `before` has a shape, the rows must hold scan `k - 1`, and this
+// must be the shape of that scan. The call is then faster.
 fn fill_at(
     test: &BoardPlan<'_>,
     k: u64,

@@ -1,5 +1,5 @@
 // The command `batch`, which diagnoses each log of a batch.
-ghost use Rattle.std.specs.Prelude.{◌≡◌, ◌≤◌, All, Ok, length};
+ghost use Rattle.std.specs.Prelude.{◌≡◌, All, Ok, length};
 ghost use Rattle.diagnoser.specs.Diagnosis.{IsFaultOnBoard};
 ghost use Rattle.board_defs.specs.Pins.{data_bits};
 ghost use Rattle.response_log.specs.LogRows.{HasSize};
@@ -18,30 +18,13 @@ use batch_diag::{Block, Verdict, blocks_by, diagnose_blocks, write_batch};
 use board_defs::Board;
 use bt_base::{Gate, Sink};
 use bt_bits::Line;
-use diagnoser::Workers;
+use side_by_side::Workers;
 use std::alloc::Global;
 use std::thread::Threads;
 
 /// Writes the diagnoses of `texts.log`, a batch of logs of the board's test. The board is the one that `texts.board` denotes. `workers` is
-/// the number of threads that work on the diagnoses, from 1 to 64. Allocates all memory before the first write.
+/// the number of threads that work on the diagnoses. Allocates all memory before the first write.
 pub fn batch<R: Threads + Sync, K: Sink, G: Gate>(
-    rt: &R,
-    alloc: Global,
-    texts: LogTexts,
-    workers: u32,
-    gate: &G,
-    out: &mut K,
-) -> Result<(), Unput>
-    requires some { 1 ≤ workers }
-    requires few { workers ≤ 64 }
-    ensures { JudgedAnswers judging_each verdicts_text DiagnosesEach texts (K.shown out.old)
-        (K.shown out.new) result }
-{
-    batch_of(rt, alloc, &texts, Workers::of(workers), gate, out)
-}
-
-// Like `batch`, but borrows the texts and takes the number of workers as `Workers`.
-fn batch_of<R: Threads + Sync, K: Sink, G: Gate>(
     rt: &R,
     alloc: Global,
     texts: &LogTexts,
@@ -76,7 +59,7 @@ fn put_batch<R: Threads + Sync, K: Sink, G: Gate>(
         (K.shown out.old) (K.shown out.new) result }
 {
     let (rows, bits) = (planned.log_rows(), planned.log_bits());
-    match blocks_by(rt, alloc, text.as_bytes(), rows, bits, workers.number()) {
+    match blocks_by(rt, alloc, text.as_bytes(), rows, bits, workers) {
         Ok(blocks) => put_blocks(rt, alloc, planned, &blocks, workers, gate, out),
         Err(fault) => Err(unput_by_batch(rows, fault)),
     }

@@ -1,5 +1,5 @@
 // The command `diagnose`, which diagnoses a log of a board's test.
-ghost use Rattle.std.specs.Prelude.{◌≡◌, ◌↔◌, ◌≤◌, All, IfOk, IsTrue, Ok};
+ghost use Rattle.std.specs.Prelude.{◌≡◌, ◌↔◌, All, IfOk, IsTrue, Ok};
 ghost use Rattle.tap_defs.specs.board.BoardScans.{svf_row_scans};
 ghost use Rattle.tap_defs.specs.board.Explaining.{IsExpected};
 ghost use Rattle.diagnoser.specs.DiagText.{diag_text};
@@ -12,15 +12,16 @@ ghost use Rattle.commands.specs.inner.Unput.{PutsText};
 
 use crate::board_test::judging_laws;
 use crate::planned::{Planned, planned_board};
-use crate::texts::{BoardTexts, LogTexts, ShortText};
+use crate::texts::{LogTexts, ShortText};
 use crate::unput::{Unput, answer_by, unput_by_log};
 use board_defs::{Board, Single};
 use bt_base::{Gate, Sink};
 use bt_bits::Line;
 use command_line::LogFiles;
-use diagnoser::{Workers, diagnose_logged, write_diagnosis};
+use diagnoser::{diagnose_logged, write_diagnosis};
 use fault_sim::LoggedTest;
 use response_log::log_of;
+use side_by_side::Workers;
 use std::alloc::{AllocError, Global};
 use std::thread::Threads;
 
@@ -32,38 +33,20 @@ struct Found {
 }
 
 /// Writes the diagnosis of `texts.log`, a log of the board's test. The board is the one that `texts.board` denotes. `workers` is the number
-/// of threads that work on the diagnosis, from 1 to 64. Allocates all memory before the first write.
+/// of threads that work on the diagnosis. Allocates all memory before the first write.
 pub fn diagnosis<R: Threads + Sync, K: Sink, G: Gate>(
     rt: &R,
     alloc: Global,
     texts: LogTexts,
-    workers: u32,
-    gate: &G,
-    out: &mut K,
-) -> Result<(), Unput>
-    requires some { 1 ≤ workers }
-    requires few { workers ≤ 64 }
-    ensures { JudgedAnswers diagnosing diagnosis_text Diagnoses texts (K.shown out.old)
-        (K.shown out.new) result }
-{
-    let LogFiles { log, board } = texts;
-    diagnosis_of(rt, alloc, &board, log, Workers::of(workers), gate, out)
-}
-
-// Like `diagnosis`, but takes the log and the board's texts as separate arguments, and the workers as `Workers`.
-fn diagnosis_of<R: Threads + Sync, K: Sink, G: Gate>(
-    rt: &R,
-    alloc: Global,
-    texts: &BoardTexts,
-    log: ShortText,
     workers: Workers,
     gate: &G,
     out: &mut K,
 ) -> Result<(), Unput>
-    ensures { JudgedAnswers diagnosing diagnosis_text Diagnoses
-        (record { log = log; board = texts.now }) (K.shown out.old) (K.shown out.new) result }
+    ensures { JudgedAnswers diagnosing diagnosis_text Diagnoses texts (K.shown out.old)
+        (K.shown out.new) result }
 {
-    match planned_board(alloc, texts) {
+    let LogFiles { log, board } = texts;
+    match planned_board(alloc, &board) {
         Ok(planned) => {
             let put = put_diagnosis(rt, alloc, &planned, log, workers, gate, out);
             drop(planned);

@@ -11,7 +11,7 @@ ghost use Rattle.commands.specs.inner.Unput.{PutsText};
 
 use crate::board_test::test_means;
 use crate::board_walk::{Walked, walk_logs_shaped, walked_board};
-use crate::texts::{BoardTexts, LogTexts, ShortText};
+use crate::texts::{LogTexts, ShortText};
 use crate::unput::{Unput, answer_by, unput_by_log};
 use board_defs::Board;
 use bt_base::Sink;
@@ -29,20 +29,7 @@ pub fn groups<K: Sink>(alloc: Global, texts: LogTexts, out: &mut K) -> Result<()
         (K.shown out.new) result }
 {
     let LogFiles { log, board } = texts;
-    groups_of(alloc, &board, log, out)
-}
-
-// Like `groups`, but takes the log and the board's texts as separate arguments.
-fn groups_of<K: Sink>(
-    alloc: Global,
-    texts: &BoardTexts,
-    log: ShortText,
-    out: &mut K,
-) -> Result<(), Unput>
-    ensures { JudgedAnswers grouping grouping_text IsGroupsText
-        (record { log = log; board = texts.now }) (K.shown out.old) (K.shown out.new) result }
-{
-    match walked_board(alloc, texts) {
+    match walked_board(alloc, &board) {
         Ok(walked) => {
             let put = put_groups(alloc, &walked, log, out);
             drop(walked);

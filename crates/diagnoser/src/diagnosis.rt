@@ -8,12 +8,12 @@ ghost use Rattle.fault_sim.specs.Suspects.{AreDiffering};
 ghost use Rattle.diagnoser.specs.Diagnosis.{AreExplaining, IsFaultOnBoard};
 
 use crate::search::{Search, search_pieces};
-use crate::workers::Workers;
 use board_defs::{Board, Single};
 use bt_base::Gate;
 use fault_sim::{LoggedTest, Universe, law};
 use response_log::Log;
 use scan_planner::Plan;
+use side_by_side::Workers;
 use std::alloc::{AllocError, Global};
 use std::thread::Threads;
 

@@ -10,9 +10,7 @@ pub mod law;
 mod lines;
 mod listing;
 mod search;
-mod workers;
 
 pub use diagnosis::{diagnose, diagnose_in, diagnose_logged};
 pub use entered::Entered;
 pub use listing::write_diagnosis;
-pub use workers::Workers;

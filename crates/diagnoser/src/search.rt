@@ -7,12 +7,11 @@ ghost use Rattle.fault_sim.specs.Places.{observes_fault};
 ghost use Rattle.diagnoser.specs.inner.Search.{IsSearch, AreFoundBetween};
 
 use crate::entered::Entered;
-use crate::workers::Workers;
 use board_defs::Single;
 use board_defs::law::passes_kept;
 use bt_base::Gate;
 use fault_sim::{LoggedTest, Suspects, TellingNet, Universe};
-use side_by_side::{Piece, in_pieces};
+use side_by_side::{Piece, Workers, in_pieces};
 use std::alloc::{AllocError, Global};
 use std::thread::Threads;
 

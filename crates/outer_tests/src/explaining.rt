@@ -11,11 +11,12 @@ ghost use Rattle.fault_sim.specs.Suspects.{AreDiffering};
 use crate::boards::{BIDIR, Files, GROUPS, PAIR, PULLED, board_of, log_of, plan_of};
 use board_defs::{Board, Kind, Single};
 use bt_base::OpenGate;
-use diagnoser::{Workers, diagnose, diagnose_in};
+use diagnoser::{diagnose, diagnose_in};
 use fault_sim::{LoggedTest, Suspects, Universe, is_pass, matches};
 use response_log::Log;
 use run_bench::{RowFault, expect};
 use scan_planner::Plan;
+use side_by_side::Workers;
 use std::alloc::{AllocError, Global};
 use std::thread::Threads;
 

@@ -3,5 +3,7 @@
 
 pub mod law;
 mod pieces;
+mod workers;
 
 pub use pieces::{Piece, in_pieces};
+pub use workers::{MOST_WORKERS, Workers};

@@ -13,13 +13,14 @@ use bt_bits::{HexFault, Line, Row, RowStack};
 use btest_cli::Status;
 use btest_core::InputFault;
 use command_line::NamedCommand;
-use diagnoser::{Entered, Workers};
+use diagnoser::Entered;
 use fault_sim::{Suspects, Universe};
 use net_classes::{Classes, ControlClass, NetClass, PinClass};
 use port_entries::BitEntries;
 use response_log::{Log, LogFault};
 use scan_planner::Plan;
 use series_parts::{Joined, LinkFault};
+use side_by_side::Workers;
 use walk_test::{Group, Walk};
 
 fn is_shared<T: Send + Sync>() {}

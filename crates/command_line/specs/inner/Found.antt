@@ -5,8 +5,9 @@ use Rattle.std.specs.Str.{bytes_eq}
 use Rattle.clap.specs.Simple.{subcommand_rows_of}
 use Rattle.clap.specs.Walk.{Row, Text, all_of, first_of}
 use Rattle.clap.specs.declared.parser.matches.ArgMatches.{ArgMatches}
+use Rattle.side_by_side.specs.Workers.{most_workers}
 use Rattle.command_line.specs.declared.command.Command.TheVariants.{Chain, Ident, Device, Cover, Svf, Walk, Make, Diagnose, Groups, Batch}
-use Rattle.command_line.specs.Limits.{most_made, most_workers}
+use Rattle.command_line.specs.Limits.{most_made}
 use Rattle.command_line.specs.Words.{ChainNames, BoardNames, LogNames, Command, number_of, with_names}
 
 -- the names of the BSDL files in the rows
@@ -17,14 +18,14 @@ bsdl_in rows = unwrap_or (all_of (codes "BSDL") rows) []
 abbrev pub few_in : List Row → Option (List Text)
 few_in rows = with_names (bsdl_in rows) (bsdl_in rows)
 
--- the file names of a chain in the rows; `None` if the chain file is missing or there are more than 255 BSDL names
+-- the names of a chain's files in the matches, or `None` if there are more than `most_names` BSDL names
 abbrev pub chain_in : List Row → Option ChainNames
 chain_in rows =
     option_and_then
     (λ chain. option_map (λ bsdl. record { chain = chain; bsdl = bsdl }) (few_in rows))
     (first_of (codes "CHAIN") rows)
 
--- the file names of a board in the rows; `None` if the chain file or the net file is missing or there are more than 255 BSDL names
+-- the names of a board's files in the matches, or `None` if there are more than `most_names` BSDL names
 abbrev pub board_in : List Row → Option BoardNames
 board_in rows =
     option_and_then
@@ -32,7 +33,7 @@ board_in rows =
     (λ nets. option_map (λ bsdl. record { chain = chain; nets = nets; bsdl = bsdl })
     (few_in rows)) (first_of (codes "NETS") rows)) (first_of (codes "CHAIN") rows)
 
--- the names of a file of response logs and of the files of its board in the matches
+-- the names of a file of response logs and of its board's files in the matches, or `None` if there are more than `most_names` BSDL names
 abbrev pub log_in : List Row → Option LogNames
 log_in rows =
     option_and_then

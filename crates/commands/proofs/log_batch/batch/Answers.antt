@@ -1,7 +1,7 @@
 use Rattle.commands.specs.LogRead.{judging_each, verdicts_text}
 use Rattle.commands.specs.Worth.{DiagnosesEach, OfDenoted}
 use Rattle.commands.proofs.AnswerLemmas.{judged_denoted, no_board_judged}
-use Rattle.commands.proofs.log_batch.batch_of.Goals as goal
+use Rattle.commands.proofs.log_batch.batch.Goals as goal
 
 pub returns-in-Err : goal.returns-in-Err
 returns-in-Err g c =
