@@ -9,6 +9,7 @@ ghost use Rattle.fault_sim.specs.inner.Marks.{HasScanRoom, MarkRow, MarkRows, Ar
 use crate::board_test::LoggedTest;
 use crate::kept::{ComparedRow, empty_row};
 use crate::passes::LoggedPass;
+use bt_bits::digit_count;
 use scan_planner::ReaderCell;
 use std::alloc::{AllocError, Global};
 
@@ -100,7 +101,7 @@ impl<'a> LoggedTest<'a> {
     {
         let board = self.board();
         let mut spare = empty_row(alloc, board)?;
-        let count = (board.dr_bits() as usize + 3) / 4;
+        let count = digit_count(board.dr_bits() as usize);
         let mut marks = vec![in alloc; 0u8; count]?;
         for x in 0..self.pass_count() {
             let pass = self.pass(x);

@@ -4,16 +4,8 @@ ghost use Rattle.bt_bits.specs.Hex.{digit_count};
 ghost use Rattle.response_log.specs.Kept.{AreRowDigits, AreWhole, kept_rows};
 ghost use Rattle.response_log.specs.LogRows.{HasSize, log_bit};
 
-use bt_bits::digit_bit;
+use bt_bits::{digit_bit, digit_count};
 use std::marker::Model;
-
-// Returns the number of hexadecimal digits of a row of `len` bits.
-#[inline]
-pub(crate) fn digit_count(len: u32) -> usize
-    ensures { result ≡ digit_count len }
-{
-    (len as usize + 3) / 4
-}
 
 // Returns `count` digits, from digit `first` on. There must be that many digits.
 #[inline]
@@ -83,7 +75,7 @@ impl Log {
         requires bit { at < length (slice_index_or self.now row []) }
         ensures { log_bit self.now row at ≡ Some result }
     {
-        let first = row as usize * digit_count(self.len);
+        let first = row as usize * digit_count(self.len as usize);
         digit_bit(self.digits[first + (at / 4) as usize], at % 4)
     }
     /// Returns the values of the digits of a row, which must be one of the log's rows. Each digit has four bits. The lowest bit of the
@@ -93,7 +85,7 @@ impl Log {
         requires { row < length self.now }
         ensures { AreRowDigits (slice_index_or self.now row []) result.now }
     {
-        let count = digit_count(self.len);
+        let count = digit_count(self.len as usize);
         let first = row as usize * count;
         digits_from(&self.digits, first, count)
     }

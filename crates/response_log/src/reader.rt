@@ -10,8 +10,8 @@ ghost use Rattle.response_log.specs.LogRows.{HasSize, bits_of_line, line_with, l
 ghost use Rattle.response_log.specs.Kept.{AreWhole, kept_rows, text_at};
 
 use crate::fault::LogFault;
-use crate::kept::{Log, digit_count};
-use bt_bits::{HexFault, read_digits};
+use crate::kept::Log;
+use bt_bits::{HexFault, digit_count, read_digits};
 use std::alloc::Global;
 use text_lines::{first_line, next_word};
 
@@ -54,7 +54,7 @@ fn keep_rows(alloc: Global, text: &mut [u8], rows: u64, len: u32) -> Result<usiz
     ensures count { IfOk result (λ kept. length (take kept text.new) ≡ rows * digit_count len) }
     ensures whole { IfOk result (λ kept. AreWhole len rows (take kept text.new)) }
 {
-    let width = digit_count(len);
+    let width = digit_count(len as usize);
     let mut row = vec![in alloc; 0u8; width.min(text.len())]?;
     let mut kept = 0usize;
     let mut found = 0u64;
@@ -127,7 +127,7 @@ fn read_row(
     ensures kept { IfOk result (λ _. AreDigitsOf (digit_row len digits.new) len digits.new) }
     ensures long { IfOk result (λ _. length word.now ≡ digit_count len) }
 {
-    if next_word(behind).is_some() || word.len() != digit_count(len) {
+    if next_word(behind).is_some() || word.len() != digit_count(len as usize) {
         return Err(LogFault::Length(line));
     }
     match read_digits(word, len, digits) {
