@@ -5,9 +5,8 @@ use Rattle.std.proofs.lemmas.List.Elements.{All-nil, All-cons}
 use Rattle.board_defs.specs.declared.board.RawBoard.{RawBoard}
 use Rattle.diagnoser.specs.Diagnosis.{IsFaultOnBoard}
 use Rattle.batch_diag.specs.declared.block.Block.{Block}
-use Rattle.batch_diag.specs.declared.judging.Batch.{Batch}
-use Rattle.batch_diag.specs.declared.verdict.Verdict.{Verdict}
-use Rattle.batch_diag.specs.Verdicts.{EachPair, IsVerdict, AreVerdicts}
+use Rattle.batch_diag.specs.declared.batch.Batch.{Batch}
+use Rattle.batch_diag.specs.Verdicts.{EachPair, IsVerdict, AreVerdicts, Verdict}
 use Rattle.batch_diag.specs.inner.Judging.{Judges, Judged}
 use Rattle.side_by_side.specs.declared.pieces.Piece.{Piece}
 use Rattle.side_by_side.specs.Pieces.{GivesTogether, items_between, piece_of, piece_start, said_then, seen_list}

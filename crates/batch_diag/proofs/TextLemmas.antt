@@ -5,12 +5,13 @@ use Rattle.std.proofs.lemmas.Bool.{eqb-true}
 use Rattle.bt_base.specs.Puts.{Puts, Shown}
 use Rattle.bt_base.specs.declared.sink.PutFault.{PutFault}
 use Rattle.line_printer.specs.Prints.{Prints}
+use Rattle.line_printer.proofs.PutLemmas.{Completes}
 use Rattle.line_printer.proofs.PrintLemmas.{prints_ok, prints_err, prints_none, prints_same, puts_of}
 use Rattle.board_defs.specs.declared.board.RawBoard.{RawBoard}
 use Rattle.diagnoser.specs.DiagText.{diag_text}
 use Rattle.diagnoser.specs.Laws.{OneDiagnosis}
 use Rattle.batch_diag.specs.declared.block.Block.{Block}
-use Rattle.batch_diag.specs.declared.verdict.Verdict.{Verdict}
+use Rattle.batch_diag.specs.Verdicts.{Verdict}
 use Rattle.batch_diag.specs.BatchText.{title_line, block_text, batch_text}
 use Rattle.batch_diag.specs.Laws.{VerdictsMakeText, OneBatchText}
 
@@ -35,12 +36,6 @@ one_batch_text one board (block ∷ blocks) text other (diagnosis, later, is, ar
 -- the text for the blocks from block `i` on
 abbrev pub texts_after : RawBoard → List Block → List Verdict → ℕ → List ℕ
 texts_after board blocks verdicts i = batch_text board (drop i blocks) (drop i verdicts)
-
--- if a sink in the state `now` prints `rest`, it has printed `whole` since the state `start`, with the same result
-abbrev pub Completes : Shown → Shown → List ℕ → List ℕ → Type 0
-Completes start now rest whole =
-    (new : Shown) (r : Result (Unit {0}) PutFault) → Prints now new [] [] rest r
-    → Prints start new [] [] whole r
 
 module _ (board : RawBoard) (blocks : List Block) (verdicts : List Verdict) (same : length verdicts ≡ length blocks) where
   after_next : (i : ℕ) (block : Block) (verdict : Verdict) → block ≡ get_or blocks i block

@@ -4,7 +4,7 @@ use Rattle.line_printer.specs.Prints.{line_of}
 use Rattle.board_defs.specs.declared.board.RawBoard.{RawBoard}
 use Rattle.diagnoser.specs.DiagText.{diag_text, IsDiagText}
 use Rattle.batch_diag.specs.declared.block.Block.{Block}
-use Rattle.batch_diag.specs.declared.verdict.Verdict.{Verdict}
+use Rattle.batch_diag.specs.Verdicts.{Verdict}
 
 -- the title of a block
 abbrev pub title_line : List ℕ → List ℕ

@@ -4,11 +4,10 @@ use Rattle.text_lines.specs.Words.{is_word}
 use Rattle.response_log.specs.LogRows.{NumberedLine, row_lines, rows_of_lines}
 use Rattle.board_defs.specs.declared.board.RawBoard.{RawBoard}
 use Rattle.batch_diag.specs.declared.block.Block.{Block}
-use Rattle.batch_diag.specs.declared.verdict.Verdict.{Verdict}
 use Rattle.batch_diag.specs.declared.fault.BatchFault.{BatchFault}
 use Rattle.batch_diag.specs.declared.fault.BatchFault.TheVariants.{Start, Title, Inner, Memory}
 use Rattle.batch_diag.specs.Batch.{begins_block, is_wrong_title, up_to_title, blocks_of_text}
-use Rattle.batch_diag.specs.Verdicts.{AreVerdicts}
+use Rattle.batch_diag.specs.Verdicts.{AreVerdicts, Verdict}
 use Rattle.batch_diag.specs.BatchText.{batch_text, IsBatchText}
 
 -- `title` and `lines` give `block`: the title has the block's id, none of the lines is a title, and the lines are the block's log

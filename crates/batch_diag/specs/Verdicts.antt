@@ -6,7 +6,8 @@ use Rattle.plan_tables.specs.declared.tables.PlanTables.{PlanTables}
 use Rattle.response_log.specs.LogRows.{HasSize}
 use Rattle.fault_sim.specs.Diagnosis.{IsDiagnosis}
 use Rattle.batch_diag.specs.declared.block.Block.{Block}
-use Rattle.batch_diag.specs.declared.verdict.Verdict.{Verdict}
+-- the verdict on a log
+pub use Rattle.diagnoser.specs.declared.verdict.Verdict.{Verdict}
 
 -- two lists have the same length, and R holds for the two items at each index
 abbrev pub EachPair : {A B : Type 0} → (A → B → Type 0) → List A → List B → Type 0

@@ -4,30 +4,19 @@ ghost use Rattle.std.specs.Thread.{IsSync};
 ghost use Rattle.board_defs.specs.Passes.{passes_of};
 ghost use Rattle.scan_planner.specs.Plans.{IsPlanOf};
 ghost use Rattle.diagnoser.specs.Diagnosis.{IsFaultOnBoard};
-ghost use Rattle.fault_sim.specs.Diagnosis.{IsDiagnosis};
-ghost use Rattle.fault_sim.specs.Kept.{KeepDrivers, KeepRows};
-ghost use Rattle.fault_sim.specs.Places.{IsUniverse};
 ghost use Rattle.batch_diag.specs.Verdicts.{AreLogs, AreVerdicts};
-ghost use Rattle.batch_diag.specs.inner.Judging.{IsBatch, Judged};
+ghost use Rattle.batch_diag.specs.inner.Judging.{Judged};
 
+use crate::batch::Batch;
 use crate::block::Block;
-use crate::verdict::Verdict;
-use board_defs::{Board, Items};
+use board_defs::Board;
 use bt_base::{Gate, OpenGate};
-use diagnoser::{Entered, diagnose_in};
-use fault_sim::{BoardTest, KeptPass, LoggedTest, Universe};
+use diagnoser::{Entered, Verdict, diagnose_in};
+use fault_sim::BoardTest;
 use scan_planner::Plan;
 use side_by_side::{Piece, Workers, in_pieces};
 use std::alloc::{AllocError, Global};
 use std::thread::Threads;
-
-/// Blocks with logs of a board's test, and the universe of the board.
-#[derive(Clone, Copy)]
-pub struct Batch<'a, 'b> {
-    pub test: &'a BoardTest<'b>,
-    pub universe: &'a Universe,
-    pub blocks: &'a [Block],
-}
 
 /// Returns the verdict on each block of a batch, in the order of the blocks. Neither the number of workers nor the gate changes
 /// the verdicts. The plan must be built from the board's passes. Each log must have as many rows as the plan's test, and each
@@ -78,91 +67,31 @@ pub fn diagnose_blocks<R: Threads + Sync, G: Gate>(
         verdicts.items) }
 {
     let kept = test.kept_passes(alloc, blocks.len())?;
-    judge_kept(rt, alloc, test, &kept, blocks, workers, gate)
-}
-
-// Like `diagnose_blocks`, but also takes kept passes, which must be kept passes of this test. They make the diagnoses faster.
-fn judge_kept<R: Threads + Sync, G: Gate>(
-    rt: &R,
-    alloc: Global,
-    test: &BoardTest<'_>,
-    kept: &[KeptPass],
-    blocks: &[Block],
-    workers: Workers,
-    gate: &G,
-) -> Result<Vec<Verdict>, AllocError>
-    requires rows { KeepRows test.now.board test.now.plan kept.now }
-    requires drivers { KeepDrivers test.now.plan kept.now }
-    requires logs { AreLogs test.now.board test.now.plan blocks.now }
-    ensures verdicts { IfOk result
-        (λ verdicts. AreVerdicts test.now.board blocks.now verdicts.items) }
-    ensures count { IfOk result (λ verdicts. length verdicts.items ≡ length blocks.now) }
-    ensures named { IfOk result
-        (λ verdicts. All (λ verdict. All (IsFaultOnBoard test.now.board) verdict.faults)
-        verdicts.items) }
-{
-    let kept_test = test.with_kept(kept);
-    judge_all(rt, alloc, &kept_test, blocks, workers, gate)
-}
-
-// Like `judge_kept`, but takes a test that includes the kept passes.
-fn judge_all<R: Threads + Sync, G: Gate>(
-    rt: &R,
-    alloc: Global,
-    test: &BoardTest<'_>,
-    blocks: &[Block],
-    workers: Workers,
-    gate: &G,
-) -> Result<Vec<Verdict>, AllocError>
-    requires logs { AreLogs test.now.board test.now.plan blocks.now }
-    ensures verdicts { IfOk result
-        (λ verdicts. AreVerdicts test.now.board blocks.now verdicts.items) }
-    ensures count { IfOk result (λ verdicts. length verdicts.items ≡ length blocks.now) }
-    ensures named { IfOk result
-        (λ verdicts. All (λ verdict. All (IsFaultOnBoard test.now.board) verdict.faults)
-        verdicts.items) }
-{
-    let universe = Universe::new(alloc, test.board(), test.plan())?;
+    let test = test.with_kept(&kept).with_universe(alloc)?;
     let batch = Batch {
-        test,
-        universe: &universe,
+        test: &test,
         blocks,
     };
     judge_pieces(rt, alloc, batch, workers, gate)
 }
 
-// Returns the verdict on a log. One worker finds it. The universe must be the universe of the board. The function takes the entry of the
-// gate so that no log is judged before the gate is entered.
+// Returns the verdict on block `i`, which one worker finds. The function takes the entry of the gate so that no log is judged before the
+// gate is entered.
 fn verdict_on<R: Threads + Sync>(
     rt: &R,
     alloc: Global,
-    logged: &LoggedTest<'_>,
-    universe: &Universe,
+    batch: Batch<'_, '_>,
+    i: u64,
     _entered: &Entered,
 ) -> Result<Verdict, AllocError>
-    requires universe { IsUniverse logged.now.test.board universe.now }
-    ensures diagnosis { IfOk result
-        (λ verdict. IsDiagnosis logged.now.test.board logged.now.log verdict.pass verdict.faults) }
-    ensures named { IfOk result
-        (λ verdict. All (IsFaultOnBoard logged.now.test.board) verdict.faults) }
+    requires { i < length batch.blocks.now }
+    ensures { IfOk result (λ verdict. Judged batch.entry i (i + 1) (verdict ∷ [])) }
 {
-    let nets = logged.differing(alloc)?;
-    let faults = diagnose_in(
-        rt,
-        alloc,
-        logged,
-        universe,
-        &nets,
-        Workers::of(1),
-        &OpenGate,
-    )?;
-    Ok(Verdict {
-        pass: logged.none_differs(&nets),
-        faults: Items::of(faults),
-    })
+    let log = &batch.blocks[i as usize].log;
+    diagnose_in(rt, alloc, batch.test, log, Workers::of(1), &OpenGate)
 }
 
-// Enters the gate for the piece with number `piece`. Then returns the verdict on block `i`. `i` must be below the number of blocks.
+// Enters the gate for the piece with number `piece`, and then returns the verdict on block `i`.
 fn judge<R: Threads + Sync, G: Gate>(
     rt: &R,
     alloc: Global,
@@ -171,14 +100,11 @@ fn judge<R: Threads + Sync, G: Gate>(
     i: u64,
     gate: &G,
 ) -> Result<Verdict, AllocError>
-    requires batch { IsBatch batch }
-    requires block { i < length batch.blocks.now }
+    requires { i < length batch.blocks.now }
     ensures { IfOk result (λ verdict. Judged batch.entry i (i + 1) (verdict ∷ [])) }
 {
     let entered = Entered::by(gate, piece, i);
-    let log = &batch.blocks[i as usize].log;
-    let logged = batch.test.with_log(log);
-    verdict_on(rt, alloc, &logged, batch.universe, &entered)
+    verdict_on(rt, alloc, batch, i, &entered)
 }
 
 // Returns the verdicts on the blocks of a piece, which must be a range of the batch's blocks.
@@ -189,7 +115,6 @@ fn judge_piece<R: Threads + Sync, G: Gate>(
     piece: Piece,
     gate: &G,
 ) -> Result<Vec<Verdict>, AllocError>
-    requires batch { IsBatch batch }
     requires order { piece.first ≤ piece.end }
     requires within { piece.end ≤ length batch.blocks.now }
     ensures { IfOk result (λ verdicts. Judged batch.entry piece.first piece.end verdicts.items) }
@@ -209,13 +134,12 @@ fn judge_pieces<R: Threads + Sync, G: Gate>(
     workers: Workers,
     gate: &G,
 ) -> Result<Vec<Verdict>, AllocError>
-    requires batch { IsBatch batch }
     ensures { IfOk result
         (λ verdicts. Judged batch.entry 0 (length batch.entry.blocks.now) verdicts.items) }
 {
     let count = batch.blocks.len() as u64;
     let find = move |piece: Piece| -> Result<Vec<Verdict>, AllocError>
-        requires { IsSync R.row × IsBatch batch × (piece.first ≤ piece.end)
+        requires { IsSync R.row × (piece.first ≤ piece.end)
             × (piece.end ≤ length batch.blocks.now) }
         ensures { IfOk result
             (λ verdicts. Judged batch.entry piece.first piece.end verdicts.items) }

@@ -4,6 +4,7 @@
 //! a title and the next title are the log of that board. Each block is diagnosed as if it were alone.
 #![tactic(auto)]
 
+mod batch;
 mod block;
 mod fault;
 mod judging;
@@ -11,11 +12,10 @@ pub mod law;
 mod lines;
 mod listing;
 mod reader;
-mod verdict;
 
 pub use block::Block;
+pub use diagnoser::Verdict;
 pub use fault::BatchFault;
 pub use judging::{diagnose_all, diagnose_blocks};
 pub use listing::write_batch;
 pub use reader::{blocks, blocks_by};
-pub use verdict::Verdict;

@@ -6,11 +6,10 @@ ghost use Rattle.diagnoser.specs.Diagnosis.{IsFaultOnBoard};
 ghost use Rattle.batch_diag.specs.BatchText.{title_line, block_text, batch_text};
 
 use crate::block::Block;
-use crate::verdict::Verdict;
 use board_defs::Board;
 use bt_base::{PutFault, Sink};
 use bt_bits::Line;
-use diagnoser::write_diagnosis;
+use diagnoser::{Verdict, write_diagnosis};
 use line_printer::put_line;
 
 fn put_title<K: Sink>(id: &[u8], line: &mut Line, out: &mut K) -> Result<(), PutFault>

@@ -33,8 +33,7 @@ use Rattle.board_defs.specs.declared.fault.Single.{Single}
 use Rattle.board_defs.specs.BoardRules.{IsBoard}
 use Rattle.fault_sim.specs.Diagnosis.{IsDiagnosis}
 use Rattle.batch_diag.specs.declared.block.Block.{Block}
-use Rattle.batch_diag.specs.declared.verdict.Verdict.{Verdict}
-use Rattle.batch_diag.specs.Verdicts.{AreVerdicts}
+use Rattle.batch_diag.specs.Verdicts.{AreVerdicts, Verdict}
 use Rattle.walk_test.specs.Laws.{OneSet}
 use Rattle.walk_test.specs.WalkTest.{board_walk_text}
 use Rattle.commands.specs.LogRead.{IsInputFault, IsJudgedLog, IsWrong, Judging, OnDenoted, TextFault, Input, Log, Batch as OfBatch, diagnosing, diagnosis_text, grouping, grouping_text, judging_each, verdicts_text}

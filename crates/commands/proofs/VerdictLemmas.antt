@@ -8,8 +8,7 @@ use Rattle.tap_defs.specs.board.Explaining.{IsExpected}
 use Rattle.diagnoser.specs.Diagnosis.{AreExplaining}
 use Rattle.diagnoser.specs.Laws.{ExplainingListed, PassingUnexplained}
 use Rattle.batch_diag.specs.declared.block.Block.{Block}
-use Rattle.batch_diag.specs.declared.verdict.Verdict.{Verdict}
-use Rattle.batch_diag.specs.Verdicts.{AreVerdicts, EachPair}
+use Rattle.batch_diag.specs.Verdicts.{AreVerdicts, EachPair, Verdict}
 use Rattle.walk_test.specs.Groups.{AreFound, Explain}
 use Rattle.walk_test.specs.Laws.{OneSet}
 use Rattle.commands.specs.Worth.{IsRight}

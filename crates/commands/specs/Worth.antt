@@ -22,8 +22,7 @@ use Rattle.tap_defs.specs.board.Explaining.{AgreeOn, Explains, HasShape, IsExpec
 use Rattle.diagnoser.specs.Laws.{ListsExplaining}
 use Rattle.diagnoser.specs.DiagText.{diag_text}
 use Rattle.batch_diag.specs.declared.block.Block.{Block}
-use Rattle.batch_diag.specs.declared.verdict.Verdict.{Verdict}
-use Rattle.batch_diag.specs.Verdicts.{EachPair}
+use Rattle.batch_diag.specs.Verdicts.{EachPair, Verdict}
 use Rattle.batch_diag.specs.BatchText.{batch_text}
 use Rattle.walk_test.specs.Groups.{AreGroups, Explain}
 use Rattle.walk_test.specs.GroupText.{groups_text}

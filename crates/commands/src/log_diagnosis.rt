@@ -1,9 +1,7 @@
 // The command `diagnose`, which diagnoses a log of a board's test.
-ghost use Rattle.std.specs.Prelude.{◌≡◌, ◌↔◌, All, IfOk, IsTrue, Ok};
-ghost use Rattle.tap_defs.specs.board.BoardScans.{svf_row_scans};
-ghost use Rattle.tap_defs.specs.board.Explaining.{IsExpected};
+ghost use Rattle.std.specs.Prelude.{◌≡◌, All, Ok};
 ghost use Rattle.diagnoser.specs.DiagText.{diag_text};
-ghost use Rattle.diagnoser.specs.Diagnosis.{AreExplaining, IsFaultOnBoard};
+ghost use Rattle.diagnoser.specs.Diagnosis.{IsFaultOnBoard};
 ghost use Rattle.command_line.specs.Words.{Text};
 ghost use Rattle.commands.specs.LogRead.{diagnosing, diagnosis_text, test_log};
 ghost use Rattle.commands.specs.Worth.{Diagnoses};
@@ -14,23 +12,16 @@ use crate::board_test::judging_laws;
 use crate::planned::{Planned, planned_board};
 use crate::texts::{LogTexts, ShortText};
 use crate::unput::{Unput, answer_by, unput_by_log};
-use board_defs::{Board, Single};
+use board_defs::Board;
 use bt_base::{Gate, Sink};
 use bt_bits::Line;
 use command_line::LogFiles;
-use diagnoser::{diagnose_logged, write_diagnosis};
+use diagnoser::{Verdict, diagnose_logged, write_diagnosis};
 use fault_sim::LoggedTest;
 use response_log::log_of;
 use side_by_side::Workers;
-use std::alloc::{AllocError, Global};
+use std::alloc::Global;
 use std::thread::Threads;
-
-// The diagnosis of a log. `pass` is true if the log passes. `faults` has the single faults that explain the log.
-#[derive(Drop)]
-struct Found {
-    pass: bool,
-    faults: Vec<Single>,
-}
 
 /// Writes the diagnosis of `texts.log`, a log of the board's test. The board is the one that `texts.board` denotes. `workers` is the number
 /// of threads that work on the diagnosis. Allocates all memory before the first write.
@@ -92,43 +83,32 @@ fn put_judged<R: Threads + Sync, K: Sink, G: Gate>(
         → AnswersOn diagnosing diagnosis_text Diagnoses text logged.now.test.board
         (K.shown out.old) (K.shown out.new) result }
 {
-    let found = found_in(rt, alloc, logged, workers, gate)?;
+    let verdict = diagnose_logged(rt, alloc, logged, workers, gate)?;
     let _plan = logged.plan();
     let _log = logged.log();
     let board = logged.board();
     judging_laws(board);
-    put_found(alloc, board, &found, out)
+    put_verdict(alloc, board, &verdict, out)
 }
 
-// Returns the diagnosis of a log of the board's test.
-fn found_in<R: Threads + Sync, G: Gate>(
-    rt: &R,
+// Writes the verdict on a log.
+fn put_verdict<K: Sink>(
     alloc: Global,
-    logged: &LoggedTest<'_>,
-    workers: Workers,
-    gate: &G,
-) -> Result<Found, AllocError>
-    ensures passes { IfOk result
-        (λ found. IsTrue found.pass
-        ↔ IsExpected logged.now.test.board (svf_row_scans logged.now.test.board)
-        logged.now.log) }
-    ensures faults { IfOk result
-        (λ found. AreExplaining logged.now.test.board logged.now.log found.faults.items) }
-    ensures named { IfOk result
-        (λ found. All (IsFaultOnBoard logged.now.test.board) found.faults.items) }
-{
-    let nets = logged.differing(alloc)?;
-    let pass = logged.none_differs(&nets);
-    let faults = diagnose_logged(rt, alloc, logged, &nets, workers, gate)?;
-    Ok(Found { pass, faults })
-}
-
-// Writes the diagnosis `found` of a log. Its faults must name nets and pins of the board.
-fn put_found<K: Sink>(alloc: Global, board: &Board, found: &Found, out: &mut K) -> Result<(), Unput>
-    requires { All (IsFaultOnBoard board.now) found.now.faults.items }
-    ensures { PutsText (diag_text board.now found.now.pass found.now.faults.items) (K.shown out.old)
+    board: &Board,
+    verdict: &Verdict,
+    out: &mut K,
+) -> Result<(), Unput>
+    requires { All (IsFaultOnBoard board.now) verdict.now.faults }
+    ensures { PutsText (diag_text board.now verdict.now.pass verdict.now.faults) (K.shown out.old)
         (K.shown out.new) result }
 {
     let mut line = Line::new(alloc)?;
-    answer_by(write_diagnosis(board, found.pass, &found.faults, &mut line, out))
+    let put = write_diagnosis(
+        board,
+        verdict.pass,
+        verdict.faults.as_slice(),
+        &mut line,
+        out,
+    );
+    answer_by(put)
 }

@@ -23,8 +23,8 @@ use scan_planner::Plan;
 use std::alloc::{AllocError, Global};
 use std::marker::Model;
 
-/// A board and the plan of its test. The plan has the passes of the board. Its value in contracts
-/// is this pair.
+/// A board and the plan of its test. The plan has the passes of the board. Contracts see the pair of the two. A `BoardTest` borrows its board
+/// and its plan. This type owns them, so it has an invariant of its own.
 #[derive(Drop)]
 pub struct Planned {
     pub board: Board,

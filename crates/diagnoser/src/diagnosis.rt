@@ -3,14 +3,15 @@ ghost use Rattle.std.specs.Prelude.{◌≡◌, ◌*◌, ◌≤◌, length, All, 
 ghost use Rattle.board_defs.specs.Passes.{passes_of};
 ghost use Rattle.board_defs.specs.Pins.{data_bits};
 ghost use Rattle.scan_planner.specs.Plans.{IsPlanOf};
-ghost use Rattle.fault_sim.specs.Places.{IsUniverse};
-ghost use Rattle.fault_sim.specs.Suspects.{AreDiffering};
+ghost use Rattle.fault_sim.specs.Diagnosis.{IsDiagnosis};
+ghost use Rattle.fault_sim.specs.Kept.{IsLogOfTest};
 ghost use Rattle.diagnoser.specs.Diagnosis.{AreExplaining, IsFaultOnBoard};
 
-use crate::search::{Search, search_pieces};
-use board_defs::{Board, Single};
+use crate::search::Search;
+use crate::verdict::Verdict;
+use board_defs::{Board, Items, Single};
 use bt_base::Gate;
-use fault_sim::{LoggedTest, Universe, law};
+use fault_sim::{BoardTest, LoggedTest, TestUniverse, law};
 use response_log::Log;
 use scan_planner::Plan;
 use side_by_side::Workers;
@@ -44,59 +45,65 @@ pub fn diagnose<R: Threads + Sync, G: Gate>(
     ensures faults { IfOk result (λ faults. AreExplaining board.now log.now faults.items) }
     ensures named { IfOk result (λ faults. All (IsFaultOnBoard board.now) faults.items) }
 {
-    let logged = LoggedTest::of(board, plan, log);
-    let nets = logged.differing(alloc)?;
-    diagnose_logged(rt, alloc, &logged, &nets, Workers::of(workers), gate)
+    let test = BoardTest::of(board, plan).with_universe(alloc)?;
+    let search = Search::new(alloc, &test, log)?;
+    explaining(rt, alloc, &search, Workers::of(workers), gate)
 }
 
-/// Like `diagnose`, but takes the log with its test. `nets` must be the nets that differ in the log.
+// Returns the single faults that explain the log of a search, each once and in order.
+fn explaining<R: Threads + Sync, G: Gate>(
+    rt: &R,
+    alloc: Global,
+    search: &Search<'_>,
+    workers: Workers,
+    gate: &G,
+) -> Result<Vec<Single>, AllocError>
+    ensures faults { IfOk result
+        (λ faults. AreExplaining search.now.logged.test.board search.now.logged.log faults.items) }
+    ensures named { IfOk result
+        (λ faults. All (IsFaultOnBoard search.now.logged.test.board) faults.items) }
+{
+    let _rules = search.compared().logged().board().raw();
+    let _suspects = search.suspects();
+    law::suspects_suffice();
+    search.faults(rt, alloc, workers, gate)
+}
+
+/// Returns the verdict on a log, given the log with its test. The candidates are tried as in `diagnose`.
 pub fn diagnose_logged<R: Threads + Sync, G: Gate>(
     rt: &R,
     alloc: Global,
     logged: &LoggedTest<'_>,
-    nets: &[u32],
     workers: Workers,
     gate: &G,
-) -> Result<Vec<Single>, AllocError>
-    requires differing { AreDiffering logged.now.test.board logged.now.test.plan logged.now.log
-        nets.now }
-    ensures faults { IfOk result
-        (λ faults. AreExplaining logged.now.test.board logged.now.log faults.items) }
+) -> Result<Verdict, AllocError>
+    ensures diagnosis { IfOk result
+        (λ verdict. IsDiagnosis logged.now.test.board logged.now.log verdict.pass verdict.faults) }
     ensures named { IfOk result
-        (λ faults. All (IsFaultOnBoard logged.now.test.board) faults.items) }
+        (λ verdict. All (IsFaultOnBoard logged.now.test.board) verdict.faults) }
 {
-    let universe = Universe::new(alloc, logged.board(), logged.plan())?;
-    diagnose_in(rt, alloc, logged, &universe, nets, workers, gate)
+    let test = logged.test().with_universe(alloc)?;
+    diagnose_in(rt, alloc, &test, logged.log(), workers, gate)
 }
 
-/// Like `diagnose_logged`, but also takes the universe, which must be the universe of the board. Many logs of one test can share it.
+/// Like `diagnose_logged`, but also takes the universe of the board, which many logs of the test can share.
 pub fn diagnose_in<R: Threads + Sync, G: Gate>(
     rt: &R,
     alloc: Global,
-    logged: &LoggedTest<'_>,
-    universe: &Universe,
-    nets: &[u32],
+    test: &TestUniverse<'_>,
+    log: &Log,
     workers: Workers,
     gate: &G,
-) -> Result<Vec<Single>, AllocError>
-    requires universe { IsUniverse logged.now.test.board universe.now }
-    requires differing { AreDiffering logged.now.test.board logged.now.test.plan logged.now.log
-        nets.now }
-    ensures faults { IfOk result
-        (λ faults. AreExplaining logged.now.test.board logged.now.log faults.items) }
-    ensures named { IfOk result
-        (λ faults. All (IsFaultOnBoard logged.now.test.board) faults.items) }
+) -> Result<Verdict, AllocError>
+    requires log { IsLogOfTest test.now log.now }
+    ensures diagnosis { IfOk result
+        (λ verdict. IsDiagnosis test.now.board log.now verdict.pass verdict.faults) }
+    ensures named { IfOk result (λ verdict. All (IsFaultOnBoard test.now.board) verdict.faults) }
 {
-    let _rules = logged.board().raw();
-    law::suspects_suffice();
-    let suspects = logged.suspects(alloc, universe, nets)?;
-    let telling = logged.telling_net(nets);
-    let search = Search {
-        logged,
-        nets,
-        telling: &telling,
-        universe,
-        suspects: &suspects,
-    };
-    search_pieces(rt, alloc, search, workers, gate)
+    let search = Search::new(alloc, test, log)?;
+    let faults = explaining(rt, alloc, &search, workers, gate)?;
+    Ok(Verdict {
+        pass: search.compared().none_differs(),
+        faults: Items::of(faults),
+    })
 }

@@ -10,7 +10,9 @@ pub mod law;
 mod lines;
 mod listing;
 mod search;
+mod verdict;
 
 pub use diagnosis::{diagnose, diagnose_in, diagnose_logged};
 pub use entered::Entered;
 pub use listing::write_diagnosis;
+pub use verdict::Verdict;

@@ -18,7 +18,7 @@ use Rattle.plan_tables.specs.declared.tables.PlanTables.{PlanTables}
 use Rattle.scan_planner.specs.Plans.{IsPlanOf}
 use Rattle.fault_sim.specs.Effects.{first_net, second_net}
 use Rattle.fault_sim.specs.inner.Effects.{fault_bit}
-use Rattle.fault_sim.specs.Fits.{ShowsAll}
+use Rattle.fault_sim.specs.Fits.{ShowsAll, ShowsOwn}
 use Rattle.fault_sim.proofs.EffectLemmas.{IsFault}
 use Rattle.fault_sim.proofs.ShowLemmas.{bits_shown, all_shown}
 
@@ -35,6 +35,13 @@ nets_there board (OpenPin pin value) (inr (setting, safe, (v, q, driver, en, ep,
     (slice_get_within board.nets pin.net v en, slice_get_within board.nets pin.net v en)
 nets_there board (Short a b kind) (less, (ne, (setting, safe, ((one, ea, oa), (two, eb, ob))))) =
     (slice_get_within board.nets a one ea, slice_get_within board.nets b two eb)
+
+-- if every pass shows the effect of a single fault on every net, every pass shows it on the fault's own nets
+pub own_shown : (board : RawBoard) (plan : PlanTables) (log : List (List Bool)) (single : Single)
+    → IsSingle board single → ShowsAll board plan (Some single) log → ShowsOwn board plan single log
+own_shown board plan log single is shown = λ x less.
+    let there = nets_there board single is in
+    (shown x less (first_net single) there.0, shown x less (second_net single) there.1)
 
 module _ (board : RawBoard) (rules : IsBoard board) (plan : PlanTables) (p : IsPlanOf board plan)
     (passes : plan.passes ≡ passes_of board) (log : List (List Bool))

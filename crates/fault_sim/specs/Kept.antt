@@ -1,6 +1,6 @@
 -- Conditions on the kept passes of a test and on a log of the test. A kept pass stores rows and drivers of a pass, so that many logs can
 -- share them.
-use Rattle.std.specs.Prelude.{◌≡◌, ℕ, suc, ◌*◌, ◌<◌, Bool, List, [], length, Option, Some, option_map, slice_get, slice_index_or}
+use Rattle.std.specs.Prelude.{◌≡◌, ℕ, suc, ◌*◌, Bool, List, [], length, Option, Some, option_map, slice_get, slice_index_or}
 use Rattle.board_defs.specs.declared.board.Ctl.{Ctl}
 use Rattle.board_defs.specs.declared.board.RawBoard.{RawBoard}
 use Rattle.board_defs.specs.Passes.{passes_of}

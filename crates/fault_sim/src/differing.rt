@@ -1,5 +1,5 @@
-// Finds the nets that differ in a log.
-ghost use Rattle.std.specs.Prelude.{◌↔◌, length, IsTrue, IfOk};
+// Compares a log with the expected bits, net by net.
+ghost use Rattle.std.specs.Prelude.{◌≡◌, ◌↔◌, length, IsTrue, IfOk};
 ghost use Rattle.tap_defs.specs.board.BoardScans.{svf_row_scans};
 ghost use Rattle.tap_defs.specs.board.Explaining.{IsExpected};
 ghost use Rattle.fault_sim.specs.Suspects.{AreDiffering};
@@ -9,10 +9,29 @@ ghost use Rattle.fault_sim.specs.inner.Marks.{AreMarks};
 use crate::board_test::LoggedTest;
 use crate::fits::net_count;
 use crate::marks::are_marked;
-use board_defs::law;
 use lists::push_if;
 use std::alloc::{AllocError, Global};
-use tap_defs::board_law;
+use std::marker::Model;
+
+/// A log with its test, and the nets that differ in the log, in net order. A net differs if one of its compared cells has a bit other than
+/// the expected bit. The model is the test and the log.
+#[derive(Drop)]
+pub struct ComparedLog<'a> {
+    logged: LoggedTest<'a>,
+    nets: Vec<u32>,
+}
+
+impl<'a> Model for ComparedLog<'a> {
+    ghost use Rattle.fault_sim.specs.Planned.{LoggedBoard};
+    ghost use Rattle.fault_sim.specs.Suspects.{AreDiffering};
+
+    ghost Value = { LoggedBoard };
+
+    ghost view = { λ a. a.logged };
+
+    ghost invariant = { λ a. AreDiffering a.logged.test.board a.logged.test.plan a.logged.log
+        a.nets.items };
+}
 
 impl<'a> LoggedTest<'a> {
     // Returns whether net `n` shows the expected bits in every pass. `marks` must be the marks of the log's digits. If none of the digits
@@ -30,10 +49,9 @@ impl<'a> LoggedTest<'a> {
         self.shows_on(None, n)
     }
 
-    /// Returns the nets that differ in the log, in net order. A net differs if, in some row, one of its compared cells has a bit other than
-    /// the expected bit. Reads each row once to find the digits with such bits. Then checks only the cells of nets that have such a digit,
-    /// which are the nets that differ and few others.
-    pub fn differing(&self, alloc: Global) -> Result<Vec<u32>, AllocError>
+    // Returns the nets that differ in the log, in net order. Reads each row once, and then only the cells of nets that may differ. These are
+    // the nets that differ and few others.
+    fn differing(&self, alloc: Global) -> Result<Vec<u32>, AllocError>
         ensures { IfOk result
             (λ nets. AreDiffering self.now.test.board self.now.test.plan self.now.log nets.items) }
     {
@@ -45,18 +63,36 @@ impl<'a> LoggedTest<'a> {
         Ok(nets)
     }
 
-    /// Returns whether every compared bit of the log is the expected bit. `nets` must be the nets that differ in the log.
-    pub fn none_differs(&self, nets: &[u32]) -> bool
-        requires { AreDiffering self.now.test.board self.now.test.plan self.now.log nets.now }
+    /// Finds the nets that differ in the log.
+    pub fn compared(self, alloc: Global) -> Result<ComparedLog<'a>, AllocError>
+        ensures { IfOk result (λ compared. compared ≡ self.entry) }
+    {
+        let nets = self.differing(alloc)?;
+        Ok(ComparedLog { logged: self, nets })
+    }
+}
+
+impl<'a> ComparedLog<'a> {
+    /// Returns the log with its test.
+    pub fn logged(&self) -> &LoggedTest<'a>
+        ensures { result.now ≡ self.now }
+    {
+        &self.logged
+    }
+
+    /// Returns the nets that differ in the log, in net order.
+    pub(crate) fn nets(&self) -> &[u32]
+        ensures { AreDiffering self.now.test.board self.now.test.plan self.now.log result.now }
+    {
+        &self.nets
+    }
+
+    /// Returns whether every compared bit of the log is the expected bit.
+    pub fn none_differs(&self) -> bool
         ensures { IsTrue result
             ↔ IsExpected self.now.test.board (svf_row_scans self.now.test.board) self.now.log }
     {
-        let _plan = self.plan();
-        let _log = self.log();
-        let _rules = self.board().raw();
-        law::passes_kept();
-        board_law::rows_compared();
-        board_law::expected_bits();
-        nets.is_empty()
+        self.logged().laws();
+        self.nets().is_empty()
     }
 }

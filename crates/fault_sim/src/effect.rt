@@ -14,7 +14,7 @@ use board_defs::{Kind, Single};
 pub enum Effect {
     /// The expected bits.
     Plain,
-    /// The same bit at all cells in all rows.
+    /// One bit, which all cells have in all rows.
     Constant(bool),
     /// In all rows, `bit` at the cells of the pin at `place`, and the expected bits at the other cells.
     AtPin {

@@ -19,13 +19,16 @@ mod passes;
 mod shown;
 mod suspects;
 mod telling;
+mod test_universe;
 mod tested;
 mod universe;
 mod words;
 
 pub use board_test::{BoardTest, LoggedTest};
+pub use differing::ComparedLog;
 pub use kept::{ComparedRow, KeptPass};
 pub use matching::{is_pass, matches};
 pub use suspects::Suspects;
 pub use telling::TellingNet;
+pub use test_universe::TestUniverse;
 pub use universe::Universe;

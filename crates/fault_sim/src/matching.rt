@@ -1,15 +1,17 @@
 // Decides whether a single fault explains a log, and whether a log has the expected bits.
-ghost use Rattle.std.specs.Prelude.{◌≡◌, ◌↔◌, ◌*◌, ◌==◌, ◌||◌, length, All, IsTrue};
+ghost use Rattle.std.specs.Prelude.{◌≡◌, ◌↔◌, ◌*◌, ◌==◌, ◌||◌, length, All, IsTrue, None, Some};
 ghost use Rattle.std.specs.List.{list_all};
+ghost use Rattle.board_defs.specs.declared.fault.Single.{Single};
 ghost use Rattle.board_defs.specs.Faults.{IsSingle};
 ghost use Rattle.board_defs.specs.Passes.{passes_of};
 ghost use Rattle.board_defs.specs.Pins.{data_bits};
 ghost use Rattle.scan_planner.specs.Plans.{IsPlanOf};
 ghost use Rattle.tap_defs.specs.board.BoardScans.{svf_row_scans};
 ghost use Rattle.tap_defs.specs.board.Explaining.{Explains, IsExpected};
-ghost use Rattle.fault_sim.specs.Suspects.{AreDiffering};
+ghost use Rattle.fault_sim.specs.Fits.{ShowsAll};
 
 use crate::board_test::LoggedTest;
+use crate::differing::ComparedLog;
 use crate::effect::{first_net, second_net};
 use board_defs::{Board, Single, law};
 use response_log::Log;
@@ -51,17 +53,30 @@ fn are_of(nets: &[u32], a: u32, b: u32) -> bool
 }
 
 impl<'a> LoggedTest<'a> {
-    /// Like the function `is_pass`, for this test and log.
-    pub fn is_pass(&self) -> bool
-        ensures { IsTrue result
-            ↔ IsExpected self.now.test.board (svf_row_scans self.now.test.board) self.now.log }
+    /// Does nothing. Its contract says what the compared cells of an expected log show, and what those of a log that a single fault explains
+    /// show.
+    pub(crate) fn laws(&self)
+        ensures expected { IsExpected self.now.test.board (svf_row_scans self.now.test.board)
+            self.now.log ↔ ShowsAll self.now.test.board self.now.test.plan None self.now.log }
+        ensures explains { (single : Single) → IsSingle self.now.test.board single
+            → (Explains self.now.test.board single self.now.log
+            ↔ ShowsAll self.now.test.board self.now.test.plan (Some single) self.now.log) }
     {
         let _plan = self.plan();
         let _log = self.log();
         let _rules = self.board().raw();
         law::passes_kept();
         board_law::rows_compared();
+        board_law::singles_respond();
         board_law::expected_bits();
+    }
+
+    /// Like the function `is_pass`, for this test and log.
+    pub fn is_pass(&self) -> bool
+        ensures { IsTrue result
+            ↔ IsExpected self.now.test.board (svf_row_scans self.now.test.board) self.now.log }
+    {
+        self.laws();
         self.shows_all(None)
     }
 
@@ -70,35 +85,26 @@ impl<'a> LoggedTest<'a> {
         requires { IsSingle self.now.test.board fault }
         ensures { IsTrue result ↔ Explains self.now.test.board fault self.now.log }
     {
-        let _plan = self.plan();
-        let _log = self.log();
-        let _rules = self.board().raw();
-        law::passes_kept();
-        board_law::rows_compared();
-        board_law::singles_respond();
+        self.laws();
         if !self.shows_own(fault) {
             return false;
         }
         self.shows_all(Some(fault))
     }
+}
 
-    /// Like `matches`, but also takes `nets`, which must be the nets that differ in the log. With them, only the cells of the fault's own
-    /// nets need a check.
-    pub fn matches_by(&self, fault: Single, nets: &[u32]) -> bool
-        requires fault { IsSingle self.now.test.board fault }
-        requires differing { AreDiffering self.now.test.board self.now.test.plan self.now.log
-            nets.now }
+impl<'a> ComparedLog<'a> {
+    /// Like the function `matches`, for this test and log. Only the cells of the fault's own nets need a check, since the nets that differ are
+    /// known.
+    pub fn matches(&self, fault: Single) -> bool
+        requires { IsSingle self.now.test.board fault }
         ensures { IsTrue result ↔ Explains self.now.test.board fault self.now.log }
     {
-        let _plan = self.plan();
-        let _log = self.log();
-        let _rules = self.board().raw();
-        law::passes_kept();
-        board_law::rows_compared();
-        board_law::singles_respond();
-        if !are_of(nets, first_net(fault), second_net(fault)) {
+        let logged = self.logged();
+        logged.laws();
+        if !are_of(self.nets(), first_net(fault), second_net(fault)) {
             return false;
         }
-        self.shows_own(fault)
+        logged.shows_own(fault)
     }
 }

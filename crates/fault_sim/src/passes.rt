@@ -178,7 +178,8 @@ impl<'a> TestPass<'a> {
     }
 }
 
-/// A pass of a log, with its test. The model is the test, the log and the number of the pass.
+/// A pass of a log, with its test. The model is the test, the log and the number of the pass. A pass does not borrow the `LoggedTest` that
+/// makes it, so it has an invariant about the log, like that type.
 #[derive(Drop)]
 pub struct LoggedPass<'a> {
     pub(crate) pass: TestPass<'a>,
@@ -223,7 +224,7 @@ impl<'a> LoggedPass<'a> {
         self.pass.plan().code(net)
     }
 
-    /// Returns the bits to which this pass drives a net, as words with one bit for each row, and the net's pull.
+    /// Returns the bits to which a net is driven in the rows of this pass, as words, and the net's pull.
     pub fn fed_words(&self, net: u32) -> FedWords
         ensures { AreWordsIn self.now net result }
     {

@@ -5,10 +5,11 @@ ghost use Rattle.board_defs.specs.Passes.{passes_of};
 ghost use Rattle.board_defs.specs.Pins.{data_bits};
 ghost use Rattle.scan_planner.specs.Plans.{IsPlanOf};
 ghost use Rattle.fault_sim.specs.Places.{IsUniverse};
-ghost use Rattle.fault_sim.specs.Suspects.{AreDiffering, AreSuspects};
+ghost use Rattle.fault_sim.specs.Suspects.{AreSuspects};
 ghost use Rattle.fault_sim.specs.inner.Suspects.{two_from, four_from, pair_number, pair_suspects, pin_net, is_net, pin_suspects, net_suspects, covered_place, suspects_of};
 
 use crate::board_test::LoggedTest;
+use crate::differing::ComparedLog;
 use crate::fault_lists::FaultLists;
 use crate::universe::{Universe, start_at};
 use board_defs::{Board, PinRef, law};
@@ -212,9 +213,8 @@ impl Suspects {
         ensures { IfOk result
             (λ suspects. AreSuspects board.now plan.now universe.now log.now suspects) }
     {
-        let logged = LoggedTest::of(board, plan, log);
-        let nets = logged.differing(alloc)?;
-        logged.suspects(alloc, universe, &nets)
+        let compared = LoggedTest::of(board, plan, log).compared(alloc)?;
+        compared.suspects(alloc, universe)
     }
 
     /// Returns the number of suspects.
@@ -240,25 +240,18 @@ fn place_at(places: &[u64], i: usize) -> u64
     places[i]
 }
 
-impl<'a> LoggedTest<'a> {
-    /// Like `Suspects::new`, for this test and log. `nets` must be the nets that differ in the log, and the universe must be built for the
-    /// board of the test.
-    pub fn suspects(
-        &self,
-        alloc: Global,
-        universe: &Universe,
-        nets: &[u32],
-    ) -> Result<Suspects, AllocError>
-        requires universe { IsUniverse self.now.test.board universe.now }
-        requires differing { AreDiffering self.now.test.board self.now.test.plan self.now.log
-            nets.now }
+impl<'a> ComparedLog<'a> {
+    /// Like `Suspects::new`, for this test and log. The universe must be built for the board of the test.
+    pub fn suspects(&self, alloc: Global, universe: &Universe) -> Result<Suspects, AllocError>
+        requires { IsUniverse self.now.test.board universe.now }
         ensures { IfOk result
             (λ suspects. AreSuspects self.now.test.board self.now.test.plan universe.now
             self.now.log suspects) }
     {
-        let plan = self.plan();
-        let _log = self.log();
-        let _rules = self.board().raw();
+        let logged = self.logged();
+        let plan = logged.plan();
+        let _log = logged.log();
+        let _rules = logged.board().raw();
         law::passes_kept();
         codes_number_covered();
         singles_observable();
@@ -266,7 +259,7 @@ impl<'a> LoggedTest<'a> {
         board_law::singles_respond();
         board_law::expected_bits();
         board_law::expected_logs();
-        let places = suspects_of(alloc, plan, universe.lists(), nets)?;
+        let places = suspects_of(alloc, plan, universe.lists(), self.nets())?;
         Ok(Suspects { places })
     }
 }

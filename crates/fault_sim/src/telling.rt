@@ -5,7 +5,7 @@ ghost use Rattle.tap_defs.specs.board.Explaining.{Explains};
 ghost use Rattle.fault_sim.specs.Planned.{net_in_pass};
 ghost use Rattle.fault_sim.specs.inner.Telling.{IsWordOn};
 
-use crate::board_test::LoggedTest;
+use crate::differing::ComparedLog;
 use crate::passes::LoggedPass;
 use crate::shown::ShownWords;
 use crate::words::{FedWords, short_word};
@@ -89,15 +89,16 @@ impl<'a> TellingNet<'a> {
     }
 }
 
-impl<'a> LoggedTest<'a> {
-    /// Returns the first net of `nets`, in the first pass in which this net does not show the expected bits. Returns `None` if there is no
-    /// such net or pass. The pass rules out nearly every short of the net that does not explain the log.
-    pub fn telling_net(&self, nets: &[u32]) -> Option<TellingNet<'a>>
+impl<'a> ComparedLog<'a> {
+    /// Returns the first net that differs in the log, in the first pass in which this net does not show the expected bits. Returns `None` if
+    /// no net differs. The pass rules out nearly every short of the net that does not explain the log.
+    pub fn telling_net(&self) -> Option<TellingNet<'a>>
         ensures { IfSome result (λ telling. telling.pass.logged ≡ self.now) }
     {
-        let net = *nets.first()?;
-        for x in 0..self.pass_count() {
-            let pass = self.pass(x);
+        let net = *self.nets().first()?;
+        let logged = self.logged();
+        for x in 0..logged.pass_count() {
+            let pass = logged.pass(x);
             if !pass.shows(None, net) {
                 return Some(TellingNet::of(pass, net));
             }

@@ -252,6 +252,14 @@ impl Universe {
         requires passes { plan.now.passes ≡ passes_of board.now }
         ensures { IfOk result (λ universe. IsUniverse board.now universe) }
     {
+        Universe::of(alloc, &BoardTest::of(board, plan))
+    }
+
+    /// Like `new`, but takes the board and the plan as the board's test.
+    pub fn of(alloc: Global, test: &BoardTest<'_>) -> Result<Universe, AllocError>
+        ensures { IfOk result (λ universe. IsUniverse test.now.board universe) }
+    {
+        let (board, plan) = (test.board(), test.plan());
         let _rules = board.raw();
         law::passes_kept();
         codes_number_covered();

@@ -6,13 +6,12 @@ ghost use Rattle.board_defs.specs.Passes.{passes_of};
 ghost use Rattle.board_defs.specs.Pins.{data_bits};
 ghost use Rattle.scan_planner.specs.Plans.{IsPlanOf};
 ghost use Rattle.fault_sim.specs.Places.{IsUniverse};
-ghost use Rattle.fault_sim.specs.Suspects.{AreDiffering};
 
 use crate::boards::{BIDIR, Files, GROUPS, PAIR, PULLED, board_of, log_of, plan_of};
 use board_defs::{Board, Kind, Single};
 use bt_base::OpenGate;
 use diagnoser::{diagnose, diagnose_in};
-use fault_sim::{LoggedTest, Suspects, Universe, is_pass, matches};
+use fault_sim::{BoardTest, ComparedLog, LoggedTest, Suspects, Universe, is_pass, matches};
 use response_log::Log;
 use run_bench::{RowFault, expect};
 use scan_planner::Plan;
@@ -356,22 +355,20 @@ fn has(list: &[u64], number: u64) -> bool {
     list.iter().any(|one| *one == number)
 }
 
-// Returns whether the fault at a place explains a log. Returns `None` if `matches` and `matches_by` disagree. `nets` must be the nets that
-// differ in the log.
-fn explains(tested: Tested<'_>, log: &Log, nets: &[u32], place: u64) -> Option<bool>
+// Returns whether the fault at a place explains a log. Returns `None` if the function `matches` and the method of `compared` disagree.
+fn explains(tested: Tested<'_>, log: &Log, compared: &ComparedLog<'_>, place: u64) -> Option<bool>
     requires plan { IsPlanOf tested.board.now tested.plan.now }
     requires passes { tested.plan.now.passes ≡ passes_of tested.board.now }
     requires universe { IsUniverse tested.board.now tested.universe.now }
     requires rows { length log.now ≡ length tested.plan.now.passes * tested.plan.now.width }
     requires bits { All (λ row. length row ≡ data_bits tested.board.now) log.now }
-    requires differing { AreDiffering tested.board.now tested.plan.now log.now nets.now }
+    requires same { compared.now.test.board ≡ tested.board.now }
 {
     let Some(fault) = fault_at(tested, place) else {
         return Some(false);
     };
     let found = matches(tested.board, tested.plan, fault, log);
-    let logged = LoggedTest::of(tested.board, tested.plan, log);
-    if logged.matches_by(fault, nets) == found {
+    if compared.matches(fault) == found {
         Some(found)
     } else {
         None
@@ -379,16 +376,21 @@ fn explains(tested: Tested<'_>, log: &Log, nets: &[u32], place: u64) -> Option<b
 }
 
 // Returns whether the faults at these places explain a log, and no other fault does. `nets` must be the nets that differ in the log.
-fn only_these_explain(tested: Tested<'_>, log: &Log, nets: &[u32], places: &[u64]) -> bool
+fn only_these_explain(
+    tested: Tested<'_>,
+    log: &Log,
+    compared: &ComparedLog<'_>,
+    places: &[u64],
+) -> bool
     requires plan { IsPlanOf tested.board.now tested.plan.now }
     requires passes { tested.plan.now.passes ≡ passes_of tested.board.now }
     requires universe { IsUniverse tested.board.now tested.universe.now }
     requires rows { length log.now ≡ length tested.plan.now.passes * tested.plan.now.width }
     requires bits { All (λ row. length row ≡ data_bits tested.board.now) log.now }
-    requires differing { AreDiffering tested.board.now tested.plan.now log.now nets.now }
+    requires same { compared.now.test.board ≡ tested.board.now }
 {
     for place in 0..tested.universe.places() {
-        match explains(tested, log, nets, place) {
+        match explains(tested, log, compared, place) {
             Some(found) if found == has(places, place) => (),
             _ => return false,
         }
@@ -468,32 +470,23 @@ fn diagnosis_is(
     are_faults(alloc, &faults, places, words)
 }
 
-// Returns whether `diagnose_in` finds the faults at these places with three workers. `nets` must be the nets that differ in the log.
-fn own_diagnosis_is(
+// Returns whether the verdict that three workers find on a log has the faults at these places.
+fn verdict_is(
     rt: &(impl Threads + Sync),
     alloc: Global,
     tested: Tested<'_>,
     log: &Log,
-    nets: &[u32],
     places: &[u64],
     words: &[&str],
 ) -> Result<bool, AllocError>
     requires plan { IsPlanOf tested.board.now tested.plan.now }
     requires passes { tested.plan.now.passes ≡ passes_of tested.board.now }
-    requires universe { IsUniverse tested.board.now tested.universe.now }
     requires rows { length log.now ≡ length tested.plan.now.passes * tested.plan.now.width }
     requires bits { All (λ row. length row ≡ data_bits tested.board.now) log.now }
-    requires differing { AreDiffering tested.board.now tested.plan.now log.now nets.now }
 {
-    let Tested {
-        board,
-        plan,
-        universe,
-    } = tested;
-    let logged = LoggedTest::of(board, plan, log);
-    let workers = Workers::of(3);
-    let faults = diagnose_in(rt, alloc, &logged, universe, nets, workers, &OpenGate)?;
-    are_faults(alloc, &faults, places, words)
+    let test = BoardTest::of(tested.board, tested.plan).with_universe(alloc)?;
+    let verdict = diagnose_in(rt, alloc, &test, log, Workers::of(3), &OpenGate)?;
+    are_faults(alloc, verdict.faults.as_slice(), places, words)
 }
 
 // Checks the row of a log: the results of the functions that take the log alone.
@@ -530,8 +523,8 @@ fn log_holds(
     Ok(())
 }
 
-// Checks the row of a log: the results of the functions that also take the nets that differ in the log.
-fn nets_hold(
+// Compares the answers of the calls that take a compared log or a test with its universe with the row of the log.
+fn comparison_holds(
     rt: &(impl Threads + Sync),
     alloc: Global,
     tested: Tested<'_>,
@@ -547,13 +540,13 @@ fn nets_hold(
     requires bits { All (λ row. length row ≡ data_bits tested.board.now) log.now }
 {
     let (name, explaining) = (rows.name, wanted.explaining);
-    let nets = LoggedTest::of(tested.board, tested.plan, log).differing(alloc)?;
+    let compared = LoggedTest::of(tested.board, tested.plan, log).compared(alloc)?;
     expect(
         name,
         row,
-        only_these_explain(tested, log, &nets, explaining),
+        only_these_explain(tested, log, &compared, explaining),
     )?;
-    let holds = own_diagnosis_is(rt, alloc, tested, log, &nets, explaining, rows.places)?;
+    let holds = verdict_is(rt, alloc, tested, log, explaining, rows.places)?;
     expect(name, row, holds)
 }
 
@@ -571,7 +564,7 @@ fn read_log_holds(
 {
     let log = log_of(alloc, tested.board, tested.plan, wanted.log)?;
     log_holds(rt, alloc, tested, &log, rows, row, wanted)?;
-    nets_hold(rt, alloc, tested, &log, rows, row, wanted)
+    comparison_holds(rt, alloc, tested, &log, rows, row, wanted)
 }
 
 fn tested_holds(

@@ -17,8 +17,7 @@ use Rattle.coverage_list.specs.CoverText.{cover_text}
 use Rattle.ident_test.specs.IdentTest.{ArePatterns, IsIdentTest}
 use Rattle.ident_test.specs.Patterns.{ident_text}
 use Rattle.batch_diag.specs.declared.block.Block.{Block}
-use Rattle.batch_diag.specs.declared.verdict.Verdict.{Verdict}
-use Rattle.batch_diag.specs.Verdicts.{EachPair}
+use Rattle.batch_diag.specs.Verdicts.{EachPair, Verdict}
 use Rattle.batch_diag.specs.BatchText.{batch_text}
 use Rattle.walk_test.specs.Groups.{Explain}
 use Rattle.walk_test.specs.WalkTest.{board_walk_text}

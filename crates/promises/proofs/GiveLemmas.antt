@@ -12,8 +12,7 @@ use Rattle.ident_test.specs.Patterns.{ident_text}
 use Rattle.fault_sim.specs.Diagnosis.{IsDiagnosis}
 use Rattle.diagnoser.specs.DiagText.{diag_text}
 use Rattle.batch_diag.specs.declared.block.Block.{Block}
-use Rattle.batch_diag.specs.declared.verdict.Verdict.{Verdict}
-use Rattle.batch_diag.specs.Verdicts.{AreVerdicts}
+use Rattle.batch_diag.specs.Verdicts.{AreVerdicts, Verdict}
 use Rattle.batch_diag.specs.BatchText.{batch_text}
 use Rattle.walk_test.specs.Groups.{AreFound}
 use Rattle.walk_test.specs.GroupText.{groups_text}

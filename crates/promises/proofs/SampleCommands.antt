@@ -29,8 +29,7 @@ use Rattle.ident_test.specs.IdentTest.{ArePatterns}
 use Rattle.ident_test.specs.Patterns.{ident_text}
 use Rattle.diagnoser.specs.DiagText.{diag_text}
 use Rattle.batch_diag.specs.declared.block.Block.{Block}
-use Rattle.batch_diag.specs.declared.verdict.Verdict.{Verdict}
-use Rattle.batch_diag.specs.Verdicts.{EachPair}
+use Rattle.batch_diag.specs.Verdicts.{EachPair, Verdict}
 use Rattle.batch_diag.specs.BatchText.{batch_text}
 use Rattle.walk_test.specs.Groups.{AreGroups, Explain}
 use Rattle.walk_test.specs.GroupText.{groups_text}

@@ -1,17 +1,10 @@
 -- The verdicts on all blocks of a batch or on a range of the blocks.
 use Rattle.std.specs.Prelude.{ℕ, List, All}
-use Rattle.fault_sim.specs.Places.{IsUniverse}
 use Rattle.diagnoser.specs.Diagnosis.{IsFaultOnBoard}
 use Rattle.side_by_side.specs.Pieces.{items_between}
 use Rattle.batch_diag.specs.declared.block.Block.{Block}
-use Rattle.batch_diag.specs.declared.judging.Batch.{Batch}
-use Rattle.batch_diag.specs.declared.verdict.Verdict.{Verdict}
-use Rattle.batch_diag.specs.Verdicts.{EachPair, IsVerdict, AreLogs}
-
--- `universe` is the universe of the board, and the blocks have logs of the board's test
-pub record IsBatch (b : Batch) : Type 0 where
-  pub universe : IsUniverse b.test.now.board b.universe.now
-  pub logs : AreLogs b.test.now.board b.test.now.plan b.blocks.now
+use Rattle.batch_diag.specs.declared.batch.Batch.{Batch}
+use Rattle.batch_diag.specs.Verdicts.{EachPair, IsVerdict, Verdict}
 
 -- the verdict is the verdict on the block, and its faults name nets and pins of the board
 abbrev pub Judges : Batch → Block → Verdict → Type 0

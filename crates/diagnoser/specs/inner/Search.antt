@@ -1,27 +1,35 @@
 -- What a search for the faults that explain a log must be given, and the faults that it finds.
-use Rattle.std.specs.Prelude.{◌≡◌, ℕ, List, filter_map, IfSome}
+use Rattle.std.specs.Prelude.{◌≡◌, ℕ, List, Option, filter_map, IfSome}
 use Rattle.board_defs.specs.declared.fault.Single.{Single}
 use Rattle.tap_defs.specs.board.Explaining.{Explains}
 use Rattle.fault_sim.specs.Places.{IsUniverse, fault_at}
-use Rattle.fault_sim.specs.Suspects.{AreDiffering, AreSuspects}
+use Rattle.fault_sim.specs.Suspects.{AreSuspects}
 use Rattle.side_by_side.specs.Pieces.{items_between}
-use Rattle.diagnoser.specs.declared.search.Search.{Search}
+use Rattle.fault_sim.specs.declared.fault_lists.FaultLists.{FaultLists}
 use Rattle.fault_sim.specs.Diagnosis.{Picks}
+use Rattle.fault_sim.specs.Planned.{LoggedBoard, NetInPass}
 
--- `nets` are the nets that differ in the log, `universe` is the universe of the board, and `suspects` are the suspects of the log. The
--- telling net, if there is one, belongs to a pass of this log.
-pub record IsSearch (s : Search) : Type 0 where
-  pub differing : AreDiffering s.logged.now.test.board s.logged.now.test.plan s.logged.now.log s.nets.now
-  pub telling : IfSome s.telling.now (λ net. net.pass.logged ≡ s.logged.now)
-  pub universe : IsUniverse s.logged.now.test.board s.universe.now
-  pub suspects : AreSuspects s.logged.now.test.board s.logged.now.test.plan s.universe.now s.logged.now.log s.suspects.now
+-- a log with its test, the universe of the board, and the candidates
+pub record SearchedLog : Type 0 where
+  pub logged : LoggedBoard
+  pub universe : FaultLists
+  pub suspects : List ℕ
+
+abbrev pub searched_log : LoggedBoard → FaultLists → List ℕ → SearchedLog
+searched_log logged universe suspects = record { logged = logged; universe = universe; suspects = suspects }
+
+-- the telling net, if there is one, is in a pass of the log; the universe is the universe of the board; the candidates are the suspects
+pub record IsSearch (logged : LoggedBoard) (telling : Option NetInPass) (universe : FaultLists) (suspects : List ℕ) : Type 0 where
+  pub telling_is : IfSome telling (λ net. net.pass.logged ≡ logged)
+  pub universe_is : IsUniverse logged.test.board universe
+  pub suspects_are : AreSuspects logged.test.board logged.test.plan universe logged.log suspects
 
 -- the faults at the suspects `from..to`
-abbrev pub faults_between : Search → ℕ → ℕ → List Single
-faults_between s from to = filter_map (fault_at s.logged.now.test.board) (items_between s.suspects.now from to)
+abbrev pub faults_between : SearchedLog → ℕ → ℕ → List Single
+faults_between s from to = filter_map (fault_at s.logged.test.board) (items_between s.suspects from to)
 
 -- `faults` are those of the faults at the suspects `from..to` that explain the log, in order
-abbrev pub AreFoundBetween : Search → ℕ → ℕ → List Single → Type 0
+abbrev pub AreFoundBetween : SearchedLog → ℕ → ℕ → List Single → Type 0
 AreFoundBetween s from to faults =
-    Picks (λ single. Explains s.logged.now.test.board single s.logged.now.log)
+    Picks (λ single. Explains s.logged.test.board single s.logged.log)
     (faults_between s from to) faults

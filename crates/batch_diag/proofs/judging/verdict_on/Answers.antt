@@ -1,26 +1,14 @@
-use Rattle.std.proofs.Common.{ℕ, List, sym, subst}
-use Rattle.board_defs.specs.declared.fault.Single.{Single}
-use Rattle.diagnoser.specs.Diagnosis.{AreExplaining}
-use Rattle.fault_sim.specs.Suspects.{AreDiffering}
+use Rattle.std.proofs.Common.{sym, subst}
+use Rattle.std.specs.Prelude.{IfOk}
+use Rattle.batch_diag.specs.declared.block.Block.{Block}
+use Rattle.batch_diag.specs.Verdicts.{IsVerdict}
+use Rattle.batch_diag.proofs.JudgeLemmas.{judged_by}
 use Rattle.batch_diag.proofs.judging.verdict_on.Goals as goal
 
-pub diagnose_in-requires-clause-differing : goal.diagnose_in-requires-clause-differing
-diagnose_in-requires-clause-differing g c =
-    λ κs within. subst
-    (λ (l : List ℕ). AreDiffering c.args.logged.now.test.board c.args.logged.now.test.plan
-    c.args.logged.now.log l) (sym c.deref.ensures.value) c.in_ok-nets.ensures
-
-pub none_differs-requires : goal.none_differs-requires
-none_differs-requires g c =
-    subst
-    (λ (l : List ℕ). AreDiffering c.args.logged.now.test.board c.args.logged.now.test.plan
-    c.args.logged.now.log l) (sym c.deref-2.ensures.value) c.in_ok-nets.ensures
-
-pub returns-clause-diagnosis : goal.returns-clause-diagnosis
-returns-clause-diagnosis g c =
-    let board = c.args.logged.now.test.board in
-    let log = c.args.logged.now.log in
-    record {
-      passes = c.none_differs.ensures;
-      list = subst (λ (l : List Single). AreExplaining board log l) (sym c.of-2.ensures) c.in_ok-faults.ensures.faults;
-    }
+pub returns : goal.returns
+returns g c =
+    let board = c.args.batch.test.now.board in
+    let result = c.diagnose_in.result in
+    judged_by c.args.batch c.args.i c.index-batch-i.result c.requires c.index-batch-i.is result
+    (subst (λ (block : Block). IfOk result (λ v. IsVerdict board block v)) (sym c.index-batch-i.is) c.diagnose_in.ensures.diagnosis)
+    c.diagnose_in.ensures.named

@@ -1,5 +1,6 @@
 use Rattle.batch_diag.specs.BatchText.{batch_text}
-use Rattle.batch_diag.proofs.TextLemmas.{Completes, texts_after}
+use Rattle.line_printer.proofs.PutLemmas.{Completes}
+use Rattle.batch_diag.proofs.TextLemmas.{texts_after}
 use Rattle.batch_diag.proofs.listing.put_blocks.Given as goal
 
 -- the texts of the blocks from number `i` on complete the text of the batch

@@ -6,7 +6,7 @@ use Rattle.board_defs.specs.Pins.{data_bits}
 use Rattle.tap_defs.specs.board.BoardScans.{svf_row_scans}
 use Rattle.tap_defs.specs.board.Explaining.{HasShape}
 use Rattle.response_log.specs.LogRows.{HasSize}
-use Rattle.batch_diag.specs.declared.verdict.Verdict.{Verdict}
+use Rattle.batch_diag.specs.Verdicts.{Verdict}
 use Rattle.batch_diag.specs.BatchText.{batch_text}
 use Rattle.commands.specs.LogRead.{OnBoard, judging_each, test_rows, verdicts_text}
 use Rattle.commands.specs.Worth.{DiagnosesEach, RespondOnce, TestMeans}

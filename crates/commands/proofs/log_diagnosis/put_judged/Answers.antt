@@ -14,16 +14,16 @@ use Rattle.commands.proofs.TestLemmas.{rows_are}
 use Rattle.commands.proofs.VerdictLemmas.{is_right}
 use Rattle.commands.proofs.log_diagnosis.put_judged.Goals as goal
 
-pub put_found-requires : goal.put_found-requires
-put_found-requires g c = rw c.board-board.ensures c.in_ok-found.ensures.named
+pub put_verdict-requires : goal.put_verdict-requires
+put_verdict-requires g c = rw c.board-board.ensures c.in_ok-verdict.ensures.named
 
 pub returns : goal.returns
 returns g c =
     let logged = c.args.logged.now in
     let board = logged.test.board in
     let rows = logged.log in
-    let found = c.in_ok-found.found in
-    let known = c.in_ok-found.ensures in
+    let verdict = c.in_ok-verdict.verdict in
+    let known = c.in_ok-verdict.ensures.diagnosis in
     let laws = c.judging_laws.ensures in
     let rules = subst (λ (b : RawBoard). IsBoard b) c.board-board.ensures laws.rules in
     let means = subst (λ (b : RawBoard). TestMeans b) c.board-board.ensures (laws.means (svf_row_scans c.board-board.result.now)) in
@@ -34,23 +34,23 @@ returns g c =
     let size = subst (λ (n : ℕ). HasSize n (data_bits board) rows)
     (rows_are board logged.test.plan c.plan-plan.ensures.plan c.plan-plan.ensures.passes)
     c.log-log.ensures.rows in
-    let right = is_right laws.listed laws.unexplained board rules rows found.pass found.faults.items known.passes known.faults in
+    let right = is_right laws.listed laws.unexplained board rules rows verdict.pass verdict.faults known.passes known.list in
     let puts = subst
-    (λ (b : RawBoard). PutsText (diag_text b found.pass found.faults.items)
-    (g.K.Sink.shown c.args.out.now) (g.K.Sink.shown c.put_found.new.out) c.put_found.result)
-    c.board-board.ensures c.put_found.ensures in
+    (λ (b : RawBoard). PutsText (diag_text b verdict.pass verdict.faults)
+    (g.K.Sink.shown c.args.out.now) (g.K.Sink.shown c.put_verdict.new.out) c.put_verdict.result)
+    c.board-board.ensures c.put_verdict.ensures in
     λ text read. text_judged (OnBoard diagnosing text board)
     (λ found. diagnosis_text (board, found)) (Diagnoses text board)
-    (found.pass, found.faults.items)
-    (record { contents = rows; holds = read; finds = record { passes = known.passes; list = known.faults } }) _ _ _ puts
+    (verdict.pass, verdict.faults)
+    (record { contents = rows; holds = read; finds = known }) _ _ _ puts
     (record {
       means = means;
       respond = respond;
       rows = rows;
       read = read;
       shape = shaped rows size;
-      pass = found.pass;
-      faults = found.faults.items;
+      pass = verdict.pass;
+      faults = verdict.faults;
       right = right;
       is = refl;
     })

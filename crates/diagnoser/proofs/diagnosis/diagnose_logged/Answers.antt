@@ -1,10 +1,11 @@
+use Rattle.std.proofs.Common.{◌∙◌}
 use Rattle.diagnoser.proofs.diagnosis.diagnose_logged.Goals as goal
 
-pub new-requires-clause-plan : goal.new-requires-clause-plan
-new-requires-clause-plan g c = rw (c.board.ensures, c.plan.ensures.value) c.plan.ensures.plan
+pub diagnose_in-requires-clause-log : goal.diagnose_in-requires-clause-log
+diagnose_in-requires-clause-log g c = λ κs within. rw (c.in_ok-test.ensures ∙ c.test.ensures, c.log.ensures.value) c.log.ensures.rows
 
-pub new-requires-clause-passes : goal.new-requires-clause-passes
-new-requires-clause-passes g c = rw (c.plan.ensures.value, c.board.ensures) c.plan.ensures.passes
+pub returns-clause-diagnosis : goal.returns-clause-diagnosis
+returns-clause-diagnosis g c = rw (c.in_ok-test.ensures ∙ c.test.ensures, c.log.ensures.value) at c.diagnose_in.ensures.diagnosis
 
-pub diagnose_in-requires-clause-universe : goal.diagnose_in-requires-clause-universe
-diagnose_in-requires-clause-universe g c = λ κs within. rw c.board.ensures at c.in_ok-universe.ensures
+pub returns-clause-named : goal.returns-clause-named
+returns-clause-named g c = rw (c.in_ok-test.ensures ∙ c.test.ensures) at c.diagnose_in.ensures.named

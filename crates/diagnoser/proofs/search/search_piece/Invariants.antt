@@ -1,6 +1,0 @@
-use Rattle.diagnoser.specs.inner.Search.{AreFoundBetween}
-use Rattle.diagnoser.proofs.search.search_piece.Given as goal
-
--- the list has the faults that were found among the piece's candidates before candidate i
-abbrev pub invariant-loop-i : goal.invariant-loop-i
-invariant-loop-i g l = AreFoundBetween l.search l.piece.first l.i l.faults.items
