@@ -53,8 +53,8 @@ fn are_of(nets: &[u32], a: u32, b: u32) -> bool
 }
 
 impl<'a> LoggedTest<'a> {
-    /// Does nothing. Its contract says what the compared cells of an expected log show, and what those of a log that a single fault explains
-    /// show.
+    /// Does nothing. Its contract states when the log has the expected bits, and when a single fault explains the log, by what the nets show
+    /// in each pass.
     pub(crate) fn laws(&self)
         ensures expected { IsExpected self.now.test.board (svf_row_scans self.now.test.board)
             self.now.log ↔ ShowsAll self.now.test.board self.now.test.plan None self.now.log }
