@@ -1,4 +1,5 @@
--- Lemmas which say that the answer for a block's lines in the whole text follows from the answer for the block's own text.
+-- The answer for lines is the log that they give, or their first fault. Lemmas which say that the answer for a block's lines in the whole
+-- text follows from the answer for the block's own text.
 use Rattle.std.proofs.Common.{◌≡◌, ℕ, zero, suc, ◌+◌, ◌≤◌, Bool, true, false, cond, nat_lt, Option, Some, None, Ok, Err, List, [], ◌∷◌, ◌++◌, length, map, take, drop, refl, sym, ap, ◌∙◌, subst, arith}
 use Rattle.std.specs.Prelude.{IfSome, filter_map, ◌==◌, is_some}
 use Rattle.std.specs.List.{slice_split, onto_first, cons_option}

@@ -1,4 +1,4 @@
--- Lemmas about the verdicts on ranges of blocks.
+-- Lemmas about the verdicts on ranges of blocks. A verdict is the diagnosis of a block's log.
 use Rattle.std.proofs.Common.{◌≡◌, ℕ, ◌+◌, ◌<◌, ◌≤◌, suc, List, [], ◌∷◌, ◌++◌, length, get_or, Result, Ok, Err, refl, sym, ap, subst, arith}
 use Rattle.std.specs.Prelude.{All, IfOk}
 use Rattle.std.proofs.lemmas.List.Elements.{All-nil, All-cons}

@@ -69,7 +69,7 @@ rows_up_to (line ∷ own) later rows none =
     ∙ ap (λ (ls : List NumberedLine). line ∷ ls)
     (rows_up_to own later (All-tail IsRow line own rows) none)
 
--- If the lines are the lines of some blocks, the answer for the lines is these blocks.
+-- If the lines are the lines of some blocks, `blocks_of_lines` returns these blocks.
 module _ (rows len : ℕ) where
   block_title : (title : NumberedLine) (own : List NumberedLine) (block : Block)
       → IsBlockOf rows len title own block → begins_block title ≡ true
@@ -573,7 +573,7 @@ module _ (rows len : ℕ) where
   first_fault lines fault (Some other) title start title_is is =
       let same : other ≡ fault = cc in start_first lines fault (start ∙ ap Some same)
 
-  -- The lemmas from here on prove the converse: the first fault is the fault in the answer.
+  -- The lemmas from here on prove the converse: `blocks_of_lines` returns the first fault.
   starts : (lines : List NumberedLine) → up_to_title lines ≡ [] → start_fault lines ≡ None
   starts [] none = refl
   starts (line ∷ lines) none = by_title (begins_block line) refl

@@ -291,7 +291,7 @@ onto_fails : (block : Block) (rest : BatchAnswer) (fault : BatchFault) → onto 
 onto_fails block (Ok more) fault is = absurd cc
 onto_fails block (Err other) fault is = cc
 
--- Lemmas which say that the answer for the blocks follows from the answer for each block's own text.
+-- Lemmas which say that the logs of all blocks, or the first fault, follow from the log or the fault that each block's own text gives.
 module _ (rows len : ℕ) where
   abbrev Rest : ℕ → ℕ → BlockText → List BlockText → BatchAnswer
   Rest k m text texts = logs_from rows len (k + 1) (placed (m + 1 + length text.below) texts)
@@ -518,7 +518,7 @@ no_inner_title (line ∷ lines) board fault is = by_test (is_wrong_title line) i
     by_test true is below = absurd cc
     by_test false is below = below is
 
--- no line before the first title has words, no title is wrong, and `fault` is the fault in the answer for the blocks
+-- no line before the first title has words, no title is wrong, and `answer`, the blocks' logs or the first block's fault, is `fault`
 record ToldOfBlock (start title : Option BatchFault) (answer : BatchAnswer) (fault : BatchFault) : Type 0 where
   start_is : start ≡ None
   title_is : title ≡ None

@@ -1,4 +1,4 @@
--- Lemmas about the answer for blocks that are read in turn or in pieces.
+-- Lemmas about blocks that are read in turn or in pieces. The answer for blocks is the blocks with their logs, or the first fault.
 use Rattle.std.proofs.Common.{◌≡◌, ℕ, ◌+◌, ◌-◌, ◌<◌, ◌≤◌, Bool, true, false, cond, Option, Some, None, Result, Ok, Err, List, [], ◌∷◌, ◌++◌, length, length-drop, suc, map, take, drop, refl, sym, ap, ◌∙◌, subst, arith, append_assoc, append-nil}
 use Rattle.std.specs.Prelude.{IfSome, alloc_error, slice_get}
 use Rattle.std.proofs.lemmas.List.{length-map, length-take-le, length_push, map-append}
@@ -72,7 +72,7 @@ logs_append rows len n (x ∷ xs) ys =
     (block_then x.id n (rows_of_lines rows len x.lines) (logs_from rows len (n + 1) xs))
     (logs_from rows len k ys)) number
 
--- Lemmas which say that the joined answer for two parts of the blocks follows from what was read of each part.
+-- Lemmas which say that the answer for all blocks follows from the answers for a first and a later part of the blocks.
 module _ {V : Type 0} (view : V → List Block) (rows len : ℕ) (said later : BatchAnswer) where
   pub read_first : (fault : BatchFault) → IfSome (batch_told fault) (λ f. said ≡ Err f)
       → IfSome (batch_told fault) (λ f. said_then said later ≡ Err f)

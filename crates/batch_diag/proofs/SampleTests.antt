@@ -1,4 +1,4 @@
--- Samples for small texts: the answers that the definition gives, and the text of a small batch.
+-- Samples of the blocks and faults that the definition gives for small texts, and of the text of a small batch.
 use Rattle.std.proofs.Common.{◌≡◌, ℕ, true, false, Ok, Err, List, [], ◌∷◌, ◌++◌, map, replicate, None, refl}
 use Rattle.std.specs.Prelude.{codes, alloc_error}
 use Rattle.std.specs.Fmt.{digits}
@@ -44,7 +44,7 @@ line_of_text : blocks_of_text (codes "BOARD A\n1\nBOARD B\n#\n4") 1 2 ≡ Err (I
 unfolding words_of
 line_of_text = refl
 
--- the answer for a batch whose logs have one row of two bits
+-- the blocks of a text, each with a log of one row of two bits, or the fault of the text
 abbrev of_one_row : List ℕ → BatchAnswer
 of_one_row text = blocks_of_text text 1 2
 

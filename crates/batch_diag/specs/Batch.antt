@@ -74,8 +74,8 @@ abbrev pub onto : Block → BatchAnswer → BatchAnswer
 onto block (Ok blocks) = Ok (block ∷ blocks)
 onto block (Err fault) = Err fault
 
--- The answer for a block and the later blocks. If the block's lines are a log, it is `later` with the block in front. Otherwise it is the
--- block's fault. `board` is the block's number.
+-- A block and the later blocks, or the first fault among them. If the block's lines are a log, this is `later` with the block in front.
+-- Otherwise it is the block's fault. `board` is the block's number.
 abbrev pub block_then : Word → ℕ → Result (List (List Bool)) LogFault → BatchAnswer → BatchAnswer
 block_then id board (Ok log) later = onto (record { id = id; log = log }) later
 block_then id board (Err fault) later = Err (Inner board fault)
@@ -92,9 +92,10 @@ abbrev pub unless_wrong : Option BatchFault → BatchAnswer → BatchAnswer
 unless_wrong None answer = answer
 unless_wrong (Some fault) answer = Err fault
 
--- The answer for the lines of a text that have words. If the first line is not a title, the answer is the fault of this line. Otherwise, if
--- there is a wrong title, it is the fault of the first wrong title. Otherwise, if the lines of some block are not a log, it is the fault of
--- the first such block. Otherwise it is all blocks. Blocks are counted from 1. A line has its number in the whole text.
+-- The blocks that the lines with words of a text give, or the fault of these lines. If the first line is not a title, this is the fault of
+-- the first line. Otherwise, if there is a wrong title, it is the fault of the first wrong title. Otherwise, if the lines of some block are
+-- not a log, it is the fault of the first such block. Otherwise it is all blocks. Blocks are counted from 1. A line has its number in the
+-- whole text.
 abbrev pub blocks_of_lines : ℕ → ℕ → List NumberedLine → BatchAnswer
 blocks_of_lines rows len lines =
     unless_wrong (start_fault lines)

@@ -55,7 +55,7 @@ IsFirstFault rows len lines (Inner board fault) =
     × (board ≡ length blocks + 1) × (lines ≡ before ++ title ∷ (own ++ later))
 IsFirstFault rows len lines (Memory e) = ⊥
 
--- the answer for a text is this fault if and only if it is the text's first fault
+-- `blocks_of_text` returns this fault for a text if and only if it is the text's first fault
 abbrev pub FaultIsTheFirst : Type 0
 FaultIsTheFirst =
     (text : List ℕ) (rows len : ℕ) (fault : BatchFault)

@@ -65,8 +65,8 @@ moved_fault before (Missing found) = Missing found
 moved_fault before (Extra n) = Extra (before + n)
 moved_fault before (Memory e) = Memory e
 
--- Block `board`, counted from 1, is the first block whose own text does not hold a log. `fault` is the fault of this own text, with its
--- line number in the whole text.
+-- The text consists of lines without words, followed by blocks. Block `board`, counted from 1, is the first block whose own text does not
+-- hold a log. `fault` is the fault of this own text, with its line number in the whole text.
 pub record FailsInBlock (text : List ℕ) (rows len board : ℕ) (fault : LogFault) : Type 0 where
   pub front : List (List ℕ)
   pub earlier : List BlockText
@@ -79,7 +79,7 @@ pub record FailsInBlock (text : List ℕ) (rows len board : ℕ) (fault : LogFau
   pub fails : log_rows (own_text block) rows len ≡ Err own
   pub line : fault ≡ moved_fault (length (front ++ flat_map lines_of_block earlier) + 1) own
 
--- if the fault in the answer is the fault of a block, it is the fault of the block's own text
+-- if `blocks_of_text` returns the fault of a block, it is the fault of the block's own text
 abbrev pub FaultByItself : Type 0
 FaultByItself =
     (text : List ℕ) (rows len board : ℕ) (fault : LogFault)

@@ -15,7 +15,7 @@ part_line part = codes "DEVICE U" ++ decimal part ++ codes " GEN -\n"
 unfoldable pub chain_file_text : ℕ → List ℕ
 chain_file_text k = each part_line 1 k
 
--- a blank, followed by the word for a pin of a part in the net file
+-- a blank and the word for a pin of a part in the net file, such as ` U1.33`
 abbrev pub pin_word : ℕ → ℕ → List ℕ
 pin_word part pin = codes " U" ++ decimal part ++ codes "." ++ decimal pin
 

@@ -129,7 +129,7 @@ fn push_cell(text: &mut Vec<u8>, cell: u32) -> Result<(), AllocError>
     }
 }
 
-// Appends the cell of an output. There is one control for each eight outputs.
+// Appends the boundary register's entry for output `index`. There is one control for each eight outputs.
 fn push_output(text: &mut Vec<u8>, index: u32) -> Result<(), AllocError>
     ensures { OnOk result
         (text.new.items
@@ -142,7 +142,7 @@ fn push_output(text: &mut Vec<u8>, index: u32) -> Result<(), AllocError>
     text.extend_from_slice(b", 1, Z)")
 }
 
-// Appends the cell of an input.
+// Appends the boundary register's entry for input `index`.
 fn push_input(text: &mut Vec<u8>, index: u32) -> Result<(), AllocError>
     ensures { OnOk result
         (text.new.items
@@ -152,7 +152,7 @@ fn push_input(text: &mut Vec<u8>, index: u32) -> Result<(), AllocError>
     text.extend_from_slice(b"), input, X)")
 }
 
-// Appends the cell of a pin of the bus.
+// Appends the boundary register's entry for pin `index` of the bus.
 fn push_bus_cell(text: &mut Vec<u8>, index: u32) -> Result<(), AllocError>
     ensures { OnOk result
         (text.new.items

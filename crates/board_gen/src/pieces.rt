@@ -12,7 +12,7 @@ pub fn push_number(text: &mut Vec<u8>, number: u32) -> Result<(), AllocError>
     text.extend_from_slice(buffer.format(number).as_bytes())
 }
 
-// Appends a word and then a number.
+// Appends a word and then a number in decimal.
 pub fn push_numbered(text: &mut Vec<u8>, word: &[u8], number: u32) -> Result<(), AllocError>
     ensures { OnOk result (text.new.items ≡ text.old.items ++ (word.now ++ decimal number)) }
 {

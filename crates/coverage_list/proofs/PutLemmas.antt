@@ -51,7 +51,7 @@ pub each_ok : (f : ℕ → List ℕ) (n count : ℕ) (whole : List ℕ) {start n
 each_ok f n count whole {start} {now} {new} {r} {x} completes less first ok last q rest =
     completes last q (prints_same (sym (texts_next f n count less)) (prints_ok first ok rest))
 
--- a step that fails in the text of number `n`: the whole text is cut short
+-- a step that fails in the text of number `n`: a prefix of the whole text is written
 pub each_err : (f : ℕ → List ℕ) (n count : ℕ) (whole : List ℕ) {start now new : Shown}
     {r q : Result (Unit {0}) PutFault} {e : PutFault}
     → Completes start now (texts_from f n count) whole → n < count → Prints now new [] [] (f n) r
@@ -68,7 +68,7 @@ pub some_ok : (f : ℕ → List ℕ) (n m count : ℕ) (whole : List ℕ) {start
 some_ok f n m count whole {start} {now} {new} {r} {x} completes least most first ok last q rest =
     completes last q (prints_same (sym (texts_split f n m count least most)) (prints_ok first ok rest))
 
--- a step that fails in the texts of the numbers `n..m`: the whole text is cut short
+-- a step that fails in the texts of the numbers `n..m`: a prefix of the whole text is written
 pub some_err : (f : ℕ → List ℕ) (n m count : ℕ) (whole : List ℕ) {start now new : Shown}
     {r q : Result (Unit {0}) PutFault} {e : PutFault}
     → Completes start now (texts_from f n count) whole → n ≤ m → m ≤ count

@@ -1,4 +1,4 @@
--- The answers in the coverage list are true.
+-- Proofs that what the coverage list says about nets, pins and pairs of nets is true of the board's safe settings.
 use Rattle.std.proofs.Common.{◌≡◌, ℕ, Bool, Some, refl}
 use Rattle.std.specs.Prelude.{slice_get}
 use Rattle.std.specs.Bool.{Decides}

@@ -65,7 +65,7 @@ net_pin_lines board pin_use net = flat_map (λ place. pin_line pin_use (slice_ge
 abbrev pub pin_lines : RawBoard → PinUse → List ℕ
 pin_lines board pin_use = flat_map (net_pin_lines board pin_use) (covered board)
 
--- the pairs of covered nets that are not paired, in pair order
+-- the pairs of covered nets that are not paired, in the order of their first nets and then of their second nets
 abbrev pub unpaired : RawBoard → List (Net × Net)
 unpaired board = filter (λ pair. not (are_paired board pair.0 pair.1)) (pairs_within (covered board))
 
@@ -75,6 +75,6 @@ pair_line low high = line_of (codes "PAIR " ∷ low.name ∷ codes " " ∷ high.
 abbrev pub pair_lines : RawBoard → List ℕ
 pair_lines board = flat_map (λ pair. pair_line pair.0 pair.1) (unpaired board)
 
--- the coverage list
+-- the lines of the list: the counts, the nets that are not covered, the untested drivers, the untested receivers, and the unpaired nets
 unfoldable pub cover_text : RawBoard → List ℕ
 cover_text board = count_line board ++ (reason_lines board ++ (pin_lines board Driver ++ (pin_lines board Receiver ++ pair_lines board)))

@@ -138,7 +138,7 @@ fn is_unpaired(board: &BoardClasses<'_>, unpaired: u64, low: u32, high: u32) -> 
 }
 
 /// Writes the line of nets `low` and `high` if net `high` is covered and not paired with net `low`. `unpaired` must be
-/// as for `is_unpaired`.
+/// the word with the bit of net `high`, in which a bit is set if its net is covered and not paired with net `low`.
 fn put_pair_at<K: Sink>(
     board: &BoardClasses<'_>,
     unpaired: u64,

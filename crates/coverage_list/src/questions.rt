@@ -1,4 +1,4 @@
-// Questions about a board with its classes. The coverage list consists of the answers.
+// Finds the counts, the untested pins and the unpaired nets for the coverage list, from a board with its classes.
 ghost use Rattle.std.specs.Prelude.{◌≡◌, ◌<◌, [], length, Some, true, false, slice_get};
 ghost use Rattle.board_defs.specs.Pins.{IsOnBoard};
 ghost use Rattle.board_defs.specs.Decided.{is_covered};
@@ -53,9 +53,9 @@ pub fn is_untested(board: &BoardClasses<'_>, pin_use: PinUse, pin: PinRef) -> bo
     }
 }
 
-/// Returns false only if the net has no line with a later net. It has none if it is not covered, or if one of its
-/// tested drivers shows that every covered net is paired with it. If the result is true, the net is covered. The board
-/// must have the net.
+/// Returns false only if the list has no line that pairs the net with a later net. Returns false if the net is not
+/// covered, or if one of its tested drivers alone shows that every covered net is paired with it. If the result is
+/// true, the net is covered. The board must have the net.
 pub fn may_be_unpaired(board: &BoardClasses<'_>, n: u32) -> bool
     requires { n < length board.now.nets }
     ensures free { result ≡ false → HoldsOfNet board.now n (λ net. net_pairs board.now n net ≡ []) }

@@ -34,7 +34,7 @@ short_line Or a b = short_fault_line (codes "OR") a b
 short_line First a b = short_fault_line (codes "DOM") a b
 short_line Second a b = short_fault_line (codes "DOM") b a
 
--- the line of a fault
+-- the line of a stuck net, of an open pin or of a short
 abbrev pub fault_line : RawBoard → Single → List ℕ
 fault_line board (StuckNet net value) = stuck_line (net_name board net) value
 fault_line board (OpenPin pin value) = open_line (pin_at board pin) value

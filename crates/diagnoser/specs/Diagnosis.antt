@@ -8,7 +8,7 @@ use Rattle.board_defs.specs.Pins.{IsOnBoard}
 use Rattle.tap_defs.specs.board.Explaining.{Explains}
 use Rattle.fault_sim.specs.Diagnosis.{Picks}
 
--- the single faults of the board that explain the log, each once and in order
+-- the single faults of the board that explain the log, each once and in the order of the list `singles board`
 abbrev pub AreExplaining : RawBoard → List (List Bool) → List Single → Type 0
 AreExplaining board log faults = Picks (λ single. Explains board single log) (singles board) faults
 

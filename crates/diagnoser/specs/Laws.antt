@@ -9,7 +9,7 @@ use Rattle.tap_defs.specs.board.Explaining.{Explains, IsExpected}
 use Rattle.diagnoser.specs.Diagnosis.{AreExplaining}
 use Rattle.diagnoser.specs.DiagText.{IsDiagText}
 
--- `faults` are exactly the single faults of the board that explain the log, each once and in order
+-- `faults` are exactly the single faults of the board that explain the log, each once and in fault order (`SinglePrecedes`)
 pub record ListsExplaining (board : RawBoard) (log : List (List Bool)) (faults : List Single) : Type 0 where
   pub exactly : (single : Single) → Contains faults single ↔ (IsSingle board single × Explains board single log)
   pub in_order : AllPairs SinglePrecedes faults
@@ -19,7 +19,7 @@ ExplainingListed =
     (board : RawBoard) (log : List (List Bool)) (faults : List Single) → IsBoard board
     → AreExplaining board log faults → ListsExplaining board log faults
 
--- a log has at most one list of the single faults that explain it, in order
+-- a log has at most one list of the single faults that explain it, in the order of the list `singles board`
 abbrev pub OneList : Type 0
 OneList =
     (board : RawBoard) (log : List (List Bool)) (faults others : List Single)

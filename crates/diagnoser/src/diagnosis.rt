@@ -18,15 +18,15 @@ use side_by_side::Workers;
 use std::alloc::{AllocError, Global};
 use std::thread::Threads;
 
-/// Returns the single faults of a board that explain a log of its test, each once and in order. Neither the number of workers nor the gate
-/// changes the result. The plan must be built from the board's passes. The log must have the plan's rows, each as long as a data scan.
-/// There must be 1 to 64 workers.
+/// Returns the single faults of a board that explain a log of its test, each once and in the order of the board's list of single faults.
+/// Neither the number of workers nor the gate changes the result. The plan must be built from the board's passes. The log must have the
+/// plan's rows, each as long as a data scan. There must be 1 to 64 workers.
 ///
-/// The candidates are the suspects, that is, the places whose faults may explain the log. They are cut into as many pieces as there are
-/// workers, and the sizes of the pieces differ by at most one candidate. Directly before a piece tries a candidate, it enters the gate with
-/// two numbers: the number of the piece, counted from 0, and the candidate's place in the universe. The first half of the pieces runs side
-/// by side with the second half. Each half is halved again in the same way, down to single pieces. If memory runs out in any piece, the
-/// call returns the error.
+/// The candidates are the suspects, that is, the places whose faults may explain the log. A place is the number of a possible single fault.
+/// The candidates are cut into as many pieces as there are workers, and the sizes of the pieces differ by at most one candidate. Directly
+/// before a piece tries a candidate, it enters the gate with two numbers: the number of the piece, counted from 0, and the candidate's
+/// place. The first half of the pieces runs side by side with the second half. Each half is halved again in the same way, down to single
+/// pieces. If memory runs out in any piece, the call returns the error.
 pub fn diagnose<R: Threads + Sync, G: Gate>(
     rt: &R,
     alloc: Global,

@@ -4,7 +4,7 @@ ghost use Rattle.diagnoser.specs.Laws.{ExplainingListed, OneList, OneDiagnosis, 
 use board_defs::law as board_law;
 use tap_defs::board_law::{expected_logs, singles_observable};
 
-/// The faults of a diagnosis are exactly the board's single faults that explain the log, each once and in order.
+/// The faults of a diagnosis are exactly the board's single faults that explain the log, each once and in fault order.
 pub fn explaining_listed()
     ensures { ExplainingListed }
 {

@@ -153,7 +153,8 @@ impl<'a> Search<'a> {
         }
     }
 
-// Tries the candidates of a piece and returns the faults that explain the log, in order. The piece must be a range of the candidates.
+// Tries the candidates of a piece and returns the faults that explain the log, in the order of the candidates. The piece must be a range of
+// the candidates.
     fn search_piece<G: Gate>(
         &self,
         alloc: Global,
@@ -174,8 +175,8 @@ impl<'a> Search<'a> {
         Ok(faults)
     }
 
-/// Tries all candidates and returns the faults that explain the log, in order. The candidates are cut into as many pieces as there are
-/// workers. The pieces run side by side.
+/// Tries all candidates and returns the faults that explain the log, in the order of the candidates. The candidates are cut into as many
+/// pieces as there are workers. The pieces run side by side.
     pub fn faults<R: Threads + Sync, G: Gate>(
         &self,
         rt: &R,

@@ -56,7 +56,7 @@ chosen_same p q place (c ∷ controls) same =
     ap (λ t. cond t (c ∷ passing_controls q (suc place) controls) (passing_controls q (suc place) controls)) (same place (omega arith)) ∙
     ap (λ v. cond (p place) (c ∷ v) v) (chosen_same p q (suc place) controls (λ n least. same n (omega (arith, least))))
 
--- Adding `place` to the test inserts the control at `place` into the chosen setting.
+-- Test `q` is test `p` with `place` added. The controls that `q` selects are those that `p` selects, and the control at `place`.
 pub chosen_set : (p q : ℕ → Bool) (first i place : ℕ) (controls : List Ctl) (c : Ctl)
     → IsInControlOrder controls → place ≡ first + i → ((n : ℕ) → q n ≡ (n == place || p n))
     → slice_get controls i ≡ Some c

@@ -1,4 +1,4 @@
--- Lemmas about the two sets of a draft: the controls in the pass, and the controls that can be added.
+-- Lemmas about the two sets of a draft, that is, a pass that is being made: the controls in the pass, and the controls that can be added.
 use Rattle.std.proofs.Common.{◌≡◌, ◌⊎◌, inl, inr, ℕ, ◌+◌, ◌/◌, ◌<◌, Bool, true, false, not, ◌&&◌, ◌||◌, List, [], length, get_or, Some, sym, ◌∙◌, ap, arith}
 use Rattle.std.specs.Prelude.{◌==◌, slice_get}
 use Rattle.std.specs.List.{list_any}
@@ -49,8 +49,8 @@ added_setting board before after place c order stands added =
     chosen_set (is_in before) (is_in after) 0 place place (useful_controls board) c order
     (omega arith) (λ n. added n ∙ ap (λ t. t || is_in before n) (and-true (n == place))) stands
 
--- Two different useful controls are together unless they share a net. So the places to remove are those listed for the nets that `c`
--- shares.
+-- Two different useful controls are together, that is, the setting with just these two is safe, unless they share a net. So the places to
+-- remove are those listed for the nets that `c` shares with other controls.
 pub loses_listed : (board : RawBoard) (sharers : List (List Block)) (nets : List ℕ) (c : Ctl)
     (before after : List ℕ) → PassesAre board → DecidesTerms board → NetsAreShared
     → AreSharers board sharers → nets ≡ shared_nets board c → holds (useful_controls board) c ≡ true

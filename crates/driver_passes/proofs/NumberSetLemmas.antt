@@ -80,7 +80,8 @@ bit_both a b i =
     ∙ two_bits min (λ p q. p && q) refl refl refl refl (bit_at a i) (bit_at b i) (bit_at-lt a i)
     (bit_at-lt b i)
 
--- Carries a fact about the bits of single words over to the numbers of the sets.
+-- If `t` gives the bit for number `n` in `after` from the bits for `n` in `before` and `others`, it also gives whether `n` is in `after`.
+-- `before` and `after` have the same number of words. If `n` is past them, `t` must give false.
 pub words_by : (t : Bool → Bool → Bool) (before after others : List ℕ) (n : ℕ)
     → (length before ≤ n / 64 → t false (is_in others n) ≡ false) → length after ≡ length before →
     (n / 64 < length before
@@ -97,7 +98,8 @@ words_by t before after others n none same each = by_place (cases_lt (n / 64) (l
         none_past after n (omega (arith, past, same)) ∙ sym (none past)
         ∙ sym (ap (λ b. t b (is_in others n)) (none_past before n past))
 
--- Carries a fact about the bits of the changed word over to the numbers of the set.
+-- Word `number` is replaced by `word`. If `t` gives the bit for number `n` in `word` from the bits for `n` in the old word and in `bits`,
+-- it also gives whether `n` is in the new set.
 pub word_changed : (t : Bool → Bool → Bool) → ((b : Bool) → t b false ≡ b)
     → (words : List ℕ) (number word bits n : ℕ) → number < length words →
     has_bit word (n % 64) ≡ t (has_bit (get_or words number 0) (n % 64)) (has_bit bits (n % 64))

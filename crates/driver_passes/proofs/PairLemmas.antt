@@ -78,7 +78,7 @@ one_done board useful passes after a b less e =
     (add_for_nets board useful passes (drivers_at board a, drivers_at board b))
     (pairs_from board a k)) next)
 
--- the pairs of two nets from net `a` on, as the lists of their tested drivers
+-- for every two nets from net `a` on, the lists of their tested drivers
 abbrev pub later_pairs : RawBoard → ℕ → List (List Drive × List Drive)
 later_pairs board a = pairs_within (drop a (drivers_by_net board))
 

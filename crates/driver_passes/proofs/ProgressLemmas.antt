@@ -38,7 +38,7 @@ held_more board passes after pass held joined is len join e = record {
       ∙ sym (ap (λ v. is_held v c) e ∙ list_any-append (λ pass. holds pass c) passes (pass ∷ []));
 }
 
--- Every pass enables a driver that is always on.
+-- Every pass enables a driver that is always on. So some pass enables it unless there are no passes.
 pub any_pass : (passes : List (List Ctl)) → list_any (λ pass. true) passes ≡ not (length passes == 0)
 any_pass [] = refl
 any_pass (pass ∷ passes) = sym (ap not (suc-eqb_zero (length passes)))

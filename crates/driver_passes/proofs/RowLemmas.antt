@@ -1,4 +1,4 @@
--- Lemmas about the rows of the passes. The row of a pass has the nets that the pass shows.
+-- Lemmas about the rows of the passes. The row of a pass is the set of the nets of which the pass enables a tested driver.
 use Rattle.std.proofs.Common.{◌≡◌, ℕ, ◌+◌, ◌/◌, ◌<◌, ◌≤◌, Bool, true, false, not, ◌&&◌, ◌||◌, List, [], ◌∷◌, ◌++◌, length, refl, sym, ◌∙◌, ap, subst, arith}
 use Rattle.std.specs.List.{list_all, list_any}
 use Rattle.std.proofs.Math.Bool.{and-true, or-false}

@@ -46,7 +46,7 @@ of_one_word = refl
 ends_of_word : filter (is_of_word 0 (2 ^ 63 + 1)) (range_with_len 0 192) ≡ 0 ∷ 63 ∷ []
 ends_of_word = refl
 
--- no bit is set
+-- a word without bits has no numbers
 none_of_word : filter (is_of_word 2 0) (range_with_len 0 192) ≡ []
 none_of_word = refl
 

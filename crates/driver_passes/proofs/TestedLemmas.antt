@@ -1,4 +1,5 @@
--- Lemmas about the nets that each useful control tests, and about the nets that a pass shows by these controls.
+-- Lemmas about the nets that each useful control tests, that is, the nets with a tested driver of this control, and about the nets that a
+-- pass shows by these controls.
 use Rattle.std.proofs.Common.{◌≡◌, ◌⊎◌, inl, inr, ℕ, zero, suc, ◌+◌, ◌/◌, ◌≤◌, ◌<◌, Bool, true, false, ◌&&◌, ◌||◌, List, [], ◌∷◌, ◌++◌, length, get_or, set, take, drop, Some, refl, sym, ◌∙◌, ap, arith, ltb}
 use Rattle.std.specs.Prelude.{◌==◌, slice_get, All}
 use Rattle.std.specs.List.{list_any}
@@ -158,7 +159,8 @@ noted_next board drivers i net start before after less one two place c at n =
         ∙ ap (λ t. drives d (take i drivers) || t)
         (or-false (is_by d (Some (get_or drivers i AlwaysOn))))
 
--- The lemmas from here to the end of the file are about the row of a pass, to which the nets of one control after another are added.
+-- The lemmas from here to the end of the file are about the row of a pass. A loop adds to the row the nets that each control of the pass
+-- tests.
 
 -- some control of the pass, at this place or later, controls a tested driver of the net
 abbrev pub left_from : RawBoard → List ℕ → ℕ → ℕ → Bool

@@ -1,4 +1,5 @@
--- Lemmas about walks. A walk may skip the controls that it would not add.
+-- Lemmas about walks. A walk goes through a list of controls and adds to a setting each control that its test accepts. It may skip controls
+-- that the test does not accept.
 use Rattle.std.proofs.Common.{◌≡◌, ℕ, zero, suc, ◌+◌, ◌-◌, ◌≤◌, ◌<◌, Bool, true, false, not, ◌&&◌, List, [], ◌∷◌, length, get_or, drop, drop-cons, drop-drop, Some, refl, sym, ◌∙◌, ap, arith, cond}
 use Rattle.std.specs.Prelude.{slice_get}
 use Rattle.std.proofs.Math.Bool.{and-false}

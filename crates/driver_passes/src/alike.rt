@@ -1,4 +1,5 @@
-// Finds nets with the same tested drivers. A pass that shows one of two such nets also shows the other.
+// Finds nets with the same tested drivers. A pass that enables a tested driver of one of two such nets also enables a
+// tested driver of the other.
 ghost use Rattle.std.specs.Prelude.{◌≡◌, ◌≤◌, ◌<◌, length, true, IfOk, IfSome};
 ghost use Rattle.board_defs.specs.Passes.{useful_controls};
 ghost use Rattle.driver_passes.specs.inner.Alike.{AreAlike};
@@ -14,7 +15,8 @@ fn are_same(drivers: &[Drive], others: &[Drive]) -> bool
     drivers == others
 }
 
-/// Returns the place of the first driver's control in the list of useful controls, or None if there is no such control.
+/// Returns the place of the first driver's control in the list of useful controls. Returns None if there is no driver,
+/// or if the first driver has no useful control.
 fn first_place(board: &BoardClasses<'_>, drivers: &[Drive]) -> Option<usize>
     ensures { IfSome result (λ i. i < length (useful_controls board.now)) }
 {

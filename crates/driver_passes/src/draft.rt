@@ -87,7 +87,7 @@ impl<'a, 'b> Draft<'a, 'b> {
         }
     }
 
-    /// Returns the setting of the draft.
+    /// Returns the setting of the pass so far. Each of its controls is useful.
     pub fn setting(&self, alloc: Global) -> Result<Setting, AllocError>
         ensures value { IfOk result (λ setting. setting ≡ self.now.setting) }
         ensures useful { IfOk result (λ setting. (c : Ctl) → holds setting c ≡ true →
@@ -117,7 +117,7 @@ impl<'a, 'b> Draft<'a, 'b> {
     }
 }
 
-/// Returns the controls whose places are in the set, in order.
+/// Returns the controls whose places are in the set, in the order of `controls`.
 fn controls_at(alloc: Global, controls: &[Ctl], places: &NumberSet) -> Result<Vec<Ctl>, AllocError>
     ensures { IfOk result
         (λ found. found.items ≡ passing_controls (is_in places.now) 0 controls.now) }

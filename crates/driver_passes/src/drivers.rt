@@ -25,8 +25,8 @@ pub struct Progress {
     pub held: NumberSet,
 }
 
-/// Returns the pass that is made for tested driver `d` after the passes `earlier`, none of which enables `d`. The
-/// control of `d`, if it has one, must be useful.
+/// Returns the pass that is made for tested driver `d` after the passes `earlier`, none of which enables `d`. `earlier`
+/// must have passes of this board. The control of `d`, if it has one, must be useful.
 fn driver_pass<'a, 'b>(
     alloc: Global,
     board: &'a BoardTables<'b>,
@@ -59,7 +59,8 @@ impl Progress {
         })
     }
 
-    /// Returns whether some pass so far has the control, which must be useful.
+    /// Returns whether some pass so far has the control, which must be useful. The passes so far must be passes of this
+    /// board.
     fn holds(&self, board: &BoardClasses<'_>, c: Ctl) -> bool
         requires progress { IsProgress board.now self.now }
         requires useful { holds (useful_controls board.now) c ≡ true }
@@ -71,7 +72,8 @@ impl Progress {
         }
     }
 
-    /// Returns whether some pass so far enables the tested driver. Its control, if it has one, must be useful.
+    /// Returns whether some pass so far enables the tested driver. The passes so far must be passes of this board. The
+    /// control of the driver, if it has one, must be useful.
     fn enables(&self, board: &BoardClasses<'_>, d: Drive) -> bool
         requires progress { IsProgress board.now self.now }
         requires driver { IsUsefulDriver board.now d }
@@ -97,8 +99,8 @@ impl Progress {
         Ok(())
     }
 
-    /// Appends a pass for the tested driver, unless a pass so far enables the driver. Its control, if it has one, must
-    /// be useful.
+    /// Appends a pass for the tested driver, unless a pass so far enables the driver. The passes so far must be passes
+    /// of this board. The control of the driver, if it has one, must be useful.
     fn add_for_driver(
         &mut self,
         alloc: Global,
@@ -119,7 +121,8 @@ impl Progress {
         Ok(())
     }
 
-    /// Calls `add_for_driver` for these drivers in turn. The control of each driver, if it has one, must be useful.
+    /// Calls `add_for_driver` for these drivers in turn. The passes so far must be passes of this board. The control of
+    /// each driver, if it has one, must be useful.
     fn add_for_drivers(
         &mut self,
         alloc: Global,

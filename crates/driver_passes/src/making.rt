@@ -11,8 +11,8 @@ use board_defs::{Board, Setting};
 use net_classes::{BoardClasses, Classes};
 use std::alloc::{AllocError, Global};
 
-/// Returns the passes of a board, in order. The tables are borrowed, because a function that owns them drops them at
-/// each of its exits.
+/// Returns the passes of a board, in the order of the board's test. The tables are borrowed, because a function that
+/// owns them drops them at each of its exits.
 fn passes_by(alloc: Global, board: &BoardTables<'_>) -> Result<Vec<Setting>, AllocError>
     ensures made { IfOk result (λ passes. passes.items ≡ passes_of board.now) }
     ensures kept { IfOk result (λ passes. ArePasses board.now passes.items) }
@@ -25,8 +25,9 @@ fn passes_by(alloc: Global, board: &BoardTables<'_>) -> Result<Vec<Setting>, All
     Ok(passes)
 }
 
-/// Returns the passes of the board, in order. The first passes together enable every tested driver. Later passes are
-/// added until, for every two paired nets, some pass observes both. `classes` must be the classes of this board.
+/// Returns the passes of the board, in the order of the board's test. The first passes together enable every tested
+/// driver. Later passes are added until, for every two paired nets, some pass observes both. `classes` must be the
+/// classes of this board.
 pub fn passes(alloc: Global, board: &Board, classes: &Classes) -> Result<Vec<Setting>, AllocError>
     requires { AreClasses board.now classes.now }
     ensures made { IfOk result (λ passes. passes.items ≡ passes_of board.now) }

@@ -68,7 +68,7 @@ fn clear_from(words: &mut [u64], others: &[u64], first: usize)
     }
 }
 
-/// Clears the bits `bits` in word `number`, if there is such a word.
+/// Clears in word `number` the bits that are set in `bits`. Does nothing if there is no such word.
 fn clear_bits(words: &mut [u64], number: usize, bits: u64)
     ensures { (n : ℕ) → is_in words.new n ≡ (is_in words.old n && not (is_of_word number bits n)) }
 {
@@ -170,7 +170,7 @@ impl NumberSet {
         set_all(&mut self.words);
     }
 
-    /// Removes the numbers that are in `others`, from the number `64 * first` on.
+    /// Removes the numbers that are in `others` and are at least `64 * first`.
     pub fn take_out(&mut self, others: &NumberSet, first: usize)
         ensures room { length self.new ≡ length self.old }
         ensures numbers { (n : ℕ) → first ≤ n / 64 →
@@ -179,7 +179,7 @@ impl NumberSet {
         clear_from(&mut self.words, &others.words, first);
     }
 
-    /// Removes each number of word `word` whose bit is set in `bits`.
+    /// Removes the numbers of word `word` whose bits are set in `bits`.
     pub fn take_out_bits(&mut self, word: usize, bits: u64)
         ensures { (n : ℕ) → is_in self.new n ≡ (is_in self.old n && not (is_of_word word bits n)) }
     {

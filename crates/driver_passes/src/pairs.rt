@@ -20,15 +20,16 @@ use net_classes::BoardClasses;
 use net_classes::law::pairs_have_drivers;
 use std::alloc::{AllocError, Global};
 
-/// The passes so far, and the tables that say which nets these passes show. Passes are added for one net after another.
-/// The net that is being handled is the *current* net.
+/// The passes so far, and the tables that say which nets these passes show. A pass shows a net if it enables a tested
+/// driver of the net. Passes are added for one net after another. The net that is being handled is the *current* net.
 #[derive(Drop)]
 pub struct Pairing {
     pub passes: Vec<Setting>,
     pub rows: Vec<NumberSet>,
     /// The word of each row that has the bit of the current net.
     pub column: Column,
-    /// The later nets that no pass so far shows together with the current net.
+    /// Of the nets from the current net on, those that no pass so far shows together with the current net. Earlier nets
+    /// may be in the set or not.
     pub left: NumberSet,
     /// The nets that every pass so far shows. Looking up a net in each row instead would be slow, since the rows are
     /// far apart in memory.

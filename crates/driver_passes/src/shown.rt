@@ -7,7 +7,7 @@ ghost use Rattle.driver_passes.specs.inner.Shown.{shows_both, words_at};
 
 use crate::number_set::{NumberSet, has_bit};
 
-/// Makes `always` the set of the nets that are in every row.
+/// Makes `always` the set of the nets that are in every row, as far as `always` has room.
 pub fn keep_shown(always: &mut NumberSet, rows: &[NumberSet])
     ensures room { length always.new ≡ length always.old }
     ensures nets { (n : ℕ) → n / 64 < length always.old →
@@ -32,8 +32,8 @@ pub fn take_shown(left: &mut NumberSet, row: &NumberSet, word: u64, a: usize)
     }
 }
 
-/// Makes `left`, from word `a / 64` on, the set of the nets that no pass shows together with net `a`. `words` must have
-/// word `a / 64` of each row.
+/// Makes `left`, from word `a / 64` on and as far as it has room, the set of the nets that no pass shows together with
+/// net `a`. `words` must have word `a / 64` of each row.
 pub fn leave_unshown(left: &mut NumberSet, rows: &[NumberSet], words: &[u64], a: usize)
     requires { words.now ≡ words_at (a / 64) rows.now }
     ensures room { length left.new ≡ length left.old }

@@ -1,5 +1,5 @@
-// The two walks over the useful controls, which add controls to a draft. A walk skips controls that cannot be added, 64
-// at a time.
+// The two walks over the useful controls, which add controls to a draft. Two controls are together if the setting with
+// just these two is safe. A walk skips controls that cannot be added, 64 at a time.
 ghost use Rattle.std.specs.Prelude.{◌≡◌, ◌<◌, length};
 ghost use Rattle.board_defs.specs.Passes.{useful_controls};
 ghost use Rattle.driver_passes.specs.inner.Progress.{IsProgress};
@@ -11,7 +11,7 @@ use crate::drivers::Progress;
 impl<'a, 'b> Draft<'a, 'b> {
     /// Finds the first useful control from place `from` on that is in no earlier pass and is together with all controls
     /// of the draft. Adds this control, if there is one. Returns the place to continue with. `from` must be the place
-    /// of a useful control.
+    /// of a useful control, and the earlier passes must be passes of the draft's board.
     fn add_new(&mut self, earlier: &Progress, from: usize) -> usize
         requires earlier { IsProgress self.old.board earlier.now }
         requires from { from < length (useful_controls self.old.board) }
@@ -29,9 +29,9 @@ impl<'a, 'b> Draft<'a, 'b> {
         place + 1
     }
 
-    /// Goes through the useful controls in order. Adds each control that is in no earlier pass and is together with all
-    /// controls of the draft. So no earlier pass enables the tested drivers of an added control. The earlier passes
-    /// must be passes of the draft's board.
+    /// Goes through the useful controls in control order. Adds each control that is in no earlier pass and is together
+    /// with all controls of the draft. So no earlier pass enables the tested drivers of an added control. The earlier
+    /// passes must be passes of the draft's board.
     pub fn first_walk(&mut self, earlier: &Progress)
         requires { IsProgress self.old.board earlier.now }
         ensures { self.new ≡ first_walked self.old 0 earlier.now.passes.items }
@@ -59,7 +59,8 @@ impl<'a, 'b> Draft<'a, 'b> {
         place + 1
     }
 
-    /// Goes through the useful controls in order. Adds each control that is together with all controls of the draft.
+    /// Goes through the useful controls in control order. Adds each control that is together with all controls of the
+    /// draft.
     pub fn second_walk(&mut self)
         ensures { self.new ≡ second_walked self.old 0 }
     {

@@ -169,8 +169,8 @@ place_in_filter g a (v ∷ nets) (suc n) net e on =
         ap (λ (i : ℕ). slice_get (map (λ (m : Numbered). m.0) rest) i) none
 
 module _ (board : RawBoard) (rules : IsBoard board) (plan : PlanTables) (p : IsPlanOf board plan) (log : List (List Bool)) where
-  -- The statement requires nothing of the log: if a pass enables a driver on such a net, all compared cells of the net read the driver's
-  -- pin, and these are not checked.
+  -- Let no pass observe net n. If a pass enables a driver on the net, all compared cells of the net read the driver's pin, and such cells
+  -- are not checked. So every log shows the expected bits on net n.
   unobserved_shows : (n : ℕ) (net : Net) → slice_get board.nets n ≡ Some net
       → is_observed board plan.passes net ≡ false → ShowsOn board plan None log n
   unobserved_shows n net is_net off x less =

@@ -130,8 +130,8 @@ module _ (board : RawBoard) (rules : IsBoard board) (plan : PlanTables) (p : IsP
         abbrev safe_value : Bool
         safe_value = unwrap_or (safe_bit t.device entry.num) false
 
-        -- in the quiet row, the driver's cell has the disable value of a driver that it controls, or the cell's safe value if it controls
-        -- no driver
+        -- In the quiet row, every controlled driver is off: the driver's cell has the disable value of a driver that it controls, or the
+        -- cell's safe value if it controls no driver.
         quiet_is : get_or plan.quiet.bits d.position false ≡ cond controls off safe_value
         quiet_is =
             ap (λ (l : List Bool). get_or l d.position false)
@@ -201,7 +201,7 @@ module _ (board : RawBoard) (rules : IsBoard board) (plan : PlanTables) (p : IsP
                 (steady_bit board (holds pass) at.part t.device entry.num)) e
                 ∙ steady_is
 
-        -- if the driver's own cell controls the driver, the net is pulled to the driver's disable value
+        -- if the pass enables the driver and the driver's own cell controls it, the net is pulled to the driver's disable value
         pull_is : (control : Control) → entry.ctl ≡ Some control → control.cell ≡ entry.num → net.pull ≡ Some control.disable
         pull_is control e same = by_rules (((board_rules board rules).nets n net is_net).pins d.place on.pin on.is_pin)
           where

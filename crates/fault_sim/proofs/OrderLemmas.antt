@@ -19,7 +19,7 @@ use Rattle.fault_sim.specs.Starts.{pairs_before}
 use Rattle.fault_sim.specs.Laws.{PlacesCounted, SuspectsSuffice}
 use Rattle.fault_sim.proofs.PlaceLemmas.{length-flat, length-pairs, places_are}
 
--- if `lists` are the lists of a board's universe, `place_count lists` is the number of the board's places
+-- if `lists` has the covered nets and the tested pins of a board, `place_count lists` is the number of the board's places
 pub places_counted : PlacesCounted
 places_counted board lists universe =
     let nets : length lists.nets

@@ -202,7 +202,7 @@ flat_past f w each xs m i none low =
       low,
     ))
 
--- the pair of items a and b has the index `pairs_before (length xs) a + b - (a + 1)`
+-- if a is less than b, the pair of items a and b has the index `pairs_before (length xs) a + b - (a + 1)` in the list of all pairs
 pub pair_there : {X : Type 0} (xs : List X) (a b k : ℕ) (x y : X) → a < b → slice_get xs a ≡ Some x
     → slice_get xs b ≡ Some y → k + suc a ≡ pairs_before (length xs) a + b →
     slice_get (pairs_within xs) k ≡ Some (x, y)

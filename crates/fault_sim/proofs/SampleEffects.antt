@@ -32,7 +32,7 @@ one_driven = refl
 none_driven : short_bit None None (Some false) First ≡ false
 none_driven = refl
 
--- if bit 0 of its own cell switches a driver off, the driver is off in row 0 and on in row 1
+-- a driver that a 0 in its own cell switches off and that carries code 2 is off in row 0 and on in row 1
 switching : map (feed_bit (Some (record { source = Code 2; off = Some false }))) (0 ∷ 1 ∷ []) ≡ None ∷ Some true ∷ []
 switching = refl
 

@@ -81,7 +81,7 @@ before_rises nets a (suc b) le within = by_side (cases_eq a (suc b)) (λ below. 
         lower : (a ≡ suc b → ⊥) → a ≤ b
         lower ne = grind arith
 
--- `p` is pair k of the list `xs`: its items are the items at places `low` and `high`
+-- `p` is pair k of the list `xs`: its items are the items at places `low` and `high`, and `low` is less than `high`
 pub record PairAt {X : Type 0} (xs : List X) (k : ℕ) (p : X × X) : Type 0 where
   pub low : ℕ
   pub high : ℕ

@@ -1,4 +1,4 @@
--- Lemmas which say that the places that follow from the lists of a universe are the places of the board.
+-- Lemmas which say that the places that follow from the lists of covered nets and tested pins are the places of the board.
 use Rattle.std.proofs.Common.{◌≡◌, ◌≢◌, ◌⊎◌, inl, inr, ℕ, ◌<◌, Bool, cond, List, [], ◌∷◌, ◌++◌, map, Option, Some, None, refl, sym, ap, ◌∙◌, subst, arith}
 use Rattle.std.specs.Prelude.{slice_get}
 use Rattle.std.specs.List.{flat_map}

@@ -58,11 +58,11 @@ is_own own (Some c) = same_ctl c own
 abbrev pub plan_readers : PlanTables → ℕ → List ReaderCell
 plan_readers plan n = readers_on plan.nets n
 
--- the code of net n
+-- the code of net n, or 0 if no pass observes the net
 abbrev pub code_in : PlanTables → ℕ → ℕ
 code_in plan n = slice_index_or plan.codes n 0
 
--- the driver that a pass enables on net n
+-- the driver that a pass enables on net n, or `None` if it enables none or the net is guarded
 abbrev pub driver_in : PlanTables → List Ctl → ℕ → Option NetDriver
 driver_in plan pass n = enabled_on plan.nets (holds pass) n
 
@@ -71,7 +71,8 @@ abbrev pub place_of_driver : Option NetDriver → Option ℕ
 place_of_driver driver = option_map (λ d. d.place) driver
 
 -- The bit that a driver's cell has in all rows of a pass, if the cell does not carry the code of a net. It is the cell's bit in the quiet
--- row, which is in the latches before each pass. If the pass holds the cell as a control, the bit is inverted.
+-- row, which disables every controlled driver and is in the latches before each pass. If the pass holds the cell as a control, the bit is
+-- inverted.
 abbrev pub steady_in : PlanTables → List Ctl → NetDriver → Bool
 steady_in plan pass d =
     cond (holds pass d.own) (not (slice_index_or plan.quiet.bits d.position false))
@@ -87,7 +88,7 @@ source_in plan pass n d = cond (is_read_beside (plan_readers plan n) d) (Code (c
 abbrev pub feed_by : PlanTables → List Ctl → ℕ → Option Bool → NetDriver → Feed
 feed_by plan pass n pull d = record { source = source_in plan pass n d; off = cond (is_own d.own d.ctl) pull None }
 
--- the feed that a pass gives net n, or `None` if the pass enables no driver on the net; `pull` is the net's pull
+-- The feed that a pass gives net n, or `None` if the pass enables no driver on the net or the net is guarded. `pull` is the net's pull.
 abbrev pub feed_in : PlanTables → List Ctl → ℕ → Option Bool → Option Feed
 feed_in plan pass n pull = option_map (feed_by plan pass n pull) (driver_in plan pass n)
 
@@ -95,7 +96,7 @@ feed_in plan pass n pull = option_map (feed_by plan pass n pull) (driver_in plan
 abbrev pub pull_in : RawBoard → ℕ → Option Bool
 pull_in board n = pulled_to (slice_get board.nets n)
 
--- the feed that a pass gives net n of the board, or `None` if the pass enables no driver on the net
+-- the feed that a pass gives net n of the board, or `None` if the pass enables no driver on the net or the net is guarded
 abbrev pub net_feed : RawBoard → PlanTables → List Ctl → ℕ → Option Feed
 net_feed board plan pass n = feed_in plan pass n (pull_in board n)
 

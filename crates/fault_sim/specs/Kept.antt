@@ -35,7 +35,7 @@ pub record IsComparedRow (board : RawBoard) (plan : PlanTables) (x j : ℕ) (row
 abbrev pub enabled_by : PlanTables → List Ctl → ℕ → NetDriver → EnabledDriver
 enabled_by plan pass n d = record { place = d.place; source = source_in plan pass n d; own = is_own d.own d.ctl }
 
--- the driver that a pass enables on net n, if there is one
+-- the driver that a pass enables on net n, or `None` if it enables none or the net is guarded
 abbrev pub enabled_driver : PlanTables → List Ctl → ℕ → Option EnabledDriver
 enabled_driver plan pass n = option_map (enabled_by plan pass n) (driver_in plan pass n)
 
@@ -43,7 +43,7 @@ enabled_driver plan pass n = option_map (enabled_by plan pass n) (driver_in plan
 abbrev pub AreComparedRows : RawBoard → PlanTables → ℕ → List ComparedRow → Type 0
 AreComparedRows board plan x rows = (j : ℕ) (row : ComparedRow) → slice_get rows j ≡ Some row → IsComparedRow board plan x j row
 
--- item n of `drivers` is the driver that the pass enables on net n, or `None` if it enables no driver on this net
+-- item n of `drivers` is the driver that the pass enables on net n, or `None` if it enables none or the net is guarded
 abbrev pub AreDrivers : PlanTables → List Ctl → List (Option EnabledDriver) → Type 0
 AreDrivers plan pass drivers =
     (n : ℕ) (driver : Option EnabledDriver) → slice_get drivers n ≡ Some driver

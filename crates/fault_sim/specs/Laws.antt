@@ -11,11 +11,11 @@ use Rattle.fault_sim.specs.declared.fault_lists.FaultLists.{FaultLists}
 use Rattle.fault_sim.specs.Places.{places_of, fault_at, IsUniverse, place_count}
 use Rattle.fault_sim.specs.Suspects.{AreSuspects}
 
--- the faults at the places are the single faults of the board, in order
+-- the faults at the places, in the order of the places, are the list of the board's single faults
 abbrev pub PlacesAre : Type 0
 PlacesAre = (board : RawBoard) → filter_map (λ place. place) (places_of board) ≡ singles board
 
--- if `lists` are the lists of the board's universe, `place_count lists` is the number of the board's places
+-- if `lists` has the covered nets and the tested pins of the board, `place_count lists` is the number of the board's places
 abbrev pub PlacesCounted : Type 0
 PlacesCounted = (board : RawBoard) (lists : FaultLists) → IsUniverse board lists → length (places_of board) ≡ place_count lists
 

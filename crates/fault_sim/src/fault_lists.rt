@@ -1,4 +1,4 @@
-// The lists of covered nets and tested pins of a board. The fault at each place of the board's universe is computed from them.
+// The lists of covered nets and tested pins of a board. The single fault at each place of the board is computed from them.
 ghost use Rattle.std.specs.Prelude.{◌≤◌, length};
 ghost use Rattle.board_defs.specs.Limits.{most_nets, most_pins};
 ghost use Rattle.fault_sim.specs.Starts.{ArePairStarts};

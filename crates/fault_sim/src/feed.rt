@@ -125,7 +125,7 @@ fn enabled_by(plan: &Plan, pass: &Setting, net: u32, driver: NetDriver) -> Enabl
 }
 
 /// Returns the driver that a pass enables on a net, with the bits of the driver's cell in the rows of the pass. Returns `None` if the pass
-/// enables no driver on the net.
+/// enables no driver on the net, or if the net is guarded.
 pub fn enabled_driver(plan: &Plan, pass: &Setting, net: u32) -> Option<EnabledDriver>
     ensures { result ≡ enabled_driver plan.now pass.now net }
 {

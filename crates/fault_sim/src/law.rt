@@ -8,18 +8,19 @@ ghost use Rattle.tap_defs.specs.board.Explaining.{Explains};
 ghost use Rattle.fault_sim.specs.Diagnosis.{Picks, IsDiagnosis};
 ghost use Rattle.fault_sim.specs.Laws.{OneOrder, PlacesAre, PlacesCounted, SuspectsArePlaces, SuspectsSuffice};
 
-/// The faults at the places of a board are the board's single faults, in order.
+/// The faults at the places of a board, in the order of the places, are the list of the board's single faults.
 pub fn places_are_the_singles()
     ensures { PlacesAre }
 {}
 
-/// If `lists` are the lists of a board's universe, `place_count` of these lists is the number of the board's places.
+/// If `lists` has the covered nets and the tested pins of a board, `place_count` of these lists is the number of the
+/// board's places. A place is the number of a possible single fault.
 pub fn places_counted()
     ensures { PlacesCounted }
 {}
 
 /// If a test is true only of faults that explain a log, filtering the faults at the suspects' places by the test gives the same list as
-/// filtering all single faults of the board.
+/// filtering all single faults of the board. The suspects of a log are the places whose faults may explain it.
 pub fn suspects_suffice()
     ensures { SuspectsSuffice }
 {}
@@ -34,7 +35,8 @@ pub fn singles_have_one_order()
     ensures { OneOrder }
 {}
 
-/// Each log of a board has exactly one diagnosis.
+/// Each log of a board has exactly one diagnosis. The diagnosis says whether every compared bit of the log is the
+/// expected bit, and lists the single faults that explain the log.
 pub fn logs_have_one_diagnosis()
     ensures some { (board : RawBoard) (log : List (List Bool)) → IsBoard board
         → (pass : Bool) × (faults : List Single) × IsDiagnosis board log pass faults }
@@ -43,8 +45,8 @@ pub fn logs_have_one_diagnosis()
         → IsDiagnosis board log other_pass others → (pass ≡ other_pass) × (faults ≡ others) }
 {}
 
-/// If a test decides for each single fault of a board whether the fault explains a log, filtering the board's single faults by the test
-/// gives the faults of the log's diagnosis, in order.
+/// If a test decides for each single fault of a board whether the fault explains a log, filtering the list of the board's single faults by
+/// the test gives the faults of the log's diagnosis.
 pub fn filters_pick()
     ensures { (board : RawBoard) (log : List (List Bool)) (test : Single → Bool) → IsBoard board
         → ((single : Single) → IsSingle board single

@@ -51,7 +51,7 @@ impl<'a> PassDrivers<'a> {
         }
     }
 
-    /// Returns the driver that the pass enables on a net, if there is one.
+    /// Returns the driver that the pass enables on a net, or `None` if it enables none or the net is guarded.
     fn on(&self, net: u32) -> Option<EnabledDriver>
         ensures { result ≡ enabled_driver self.now.plan self.now.pass net }
     {
@@ -124,14 +124,15 @@ impl<'a> TestPass<'a> {
         u64::from(self.pass.number()) * u64::from(self.plan().width())
     }
 
-    /// Returns the driver that the pass enables on a net, if there is one.
+    /// Returns the driver that the pass enables on a net, or `None` if it enables none or the net is guarded.
     pub fn driver(&self, net: u32) -> Option<EnabledDriver>
         ensures { result ≡ enabled_driver self.now.test.plan (controls_of self.now) net }
     {
         self.drivers.on(net)
     }
 
-    /// Returns the place of the pin of the driver that the pass enables on a net, if there is one.
+    /// Returns the place of the pin of the driver that the pass enables on a net. Returns `None` if the pass enables no
+    /// driver on the net, or if the net is guarded.
     pub fn driver_place(&self, net: u32) -> Option<u32>
         ensures { result
             ≡ place_of_driver (driver_in self.now.test.plan (controls_of self.now) net) }
@@ -217,7 +218,7 @@ impl<'a> LoggedPass<'a> {
         self.pass.board()
     }
 
-    /// Returns the code of a net.
+    /// Returns the code of a net, or 0 if no pass observes the net.
     pub fn code(&self, net: u32) -> u32
         ensures { result ≡ code_in self.now.logged.test.plan net }
     {

@@ -20,8 +20,9 @@ use std::marker::Model;
 use tap_defs::board_law;
 use tap_defs::board_law::{codes_number_covered, singles_observable};
 
-/// The places of a universe whose faults may explain a log. The model is the list of these places. A single fault changes only compared
-/// cells of its own nets, so every suspect is the place of a fault that involves all nets that differ in the log.
+/// The places of a board whose faults may explain a log. A place is the number of a possible single fault. The model is the list of these
+/// places. A single fault changes only compared cells of its own nets, so every suspect is the place of a fault that involves all nets that
+/// differ in the log.
 #[derive(Drop)]
 pub struct Suspects {
     places: Vec<u64>,

@@ -85,7 +85,7 @@ impl<T: Copy> Few<T> {
         })
     }
 
-    /// Returns the items in order.
+    /// Returns the items as a slice.
     pub fn as_slice(&self) -> &[T]
         ensures { result.now ≡ self.now }
     {

@@ -136,8 +136,8 @@ can_there : (board : RawBoard) (net : Option Net) (d : Drive) → Has (drivers_t
 can_there board None d has = absurd has
 can_there board (Some net) d has = tested_can_drive board net d (tested_has board net d has)
 
--- If control `c` is safe alone, the nets that safe settings with `c` observe are the covered nets without those in `closed` on which `c`
--- has no tested driver.
+-- Let control `c` be safe alone, and let `closed` be the nets that the shared nets of `c` close. The nets that safe settings with `c`
+-- observe are the covered nets, except those in `closed` on which `c` has no tested driver.
 row_fits : (board : RawBoard) (c : Ctl) (closed : List ℕ) (n : ℕ) → is_safe_alone board c ≡ true
     → AreClosed board (shared_nets board c) closed →
     (fits_at board AlwaysOn n && not (stands_in (filter (λ n. not (owns_at board c n)) closed) n)) ≡ fits_at board (By c) n

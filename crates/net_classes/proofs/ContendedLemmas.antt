@@ -1,4 +1,5 @@
--- Two different controls have drivers on one net if and only if their lists of shared nets have a number in common.
+-- Two different controls have drivers on one net if and only if their lists of shared nets have a number in common. The shared nets of a
+-- control are the nets with a driver of this control and a driver of another control.
 use Rattle.std.proofs.Common.{◌≡◌, ℕ, ◌<◌, slice_index, Bool, true, false, ◌&&◌, List, length, Option, Some, None, refl, sym, ◌∙◌, ap, subst, arith}
 use Rattle.std.specs.Prelude.{slice_get}
 use Rattle.std.specs.List.{list_any, range_with_len}

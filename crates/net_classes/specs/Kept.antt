@@ -30,7 +30,8 @@ pub record ArePairRows (board : RawBoard) (pairs : PairRows) : Type 0 where
   pub covered : AreRowBits (fits_at board AlwaysOn) (row_in pairs 0)
   pub each : (c : Ctl) → IsCell board c → is_useful board c ≡ true → AreRowBits (fits_at board (By c)) (row_in pairs (row_number pairs c))
 
--- `classes` are the classes of the board
+-- `classes` has the class of each net and each control, the useful controls, the nets that each control shares with another control, and
+-- the rows of bits that say which nets are paired
 pub record AreClasses (board : RawBoard) (classes : Classes) : Type 0 where
   pub nets_are : classes.nets.items ≡ map (net_class_of board) board.nets
   pub controls_are : (c : Ctl) → IsCell board c → item_of_cell (table classes.controls.items) c ≡ Some (control_class_of board c)

@@ -118,7 +118,7 @@ impl<'a> Known<'a> {
         &self.facts.useful
     }
 
-    /// Returns how the tested drivers of the net are enabled.
+    /// Returns how the tested drivers of the net are enabled. There are none if no net has this number.
     pub fn drivers(&self, net: u32) -> &[Drive]
         ensures { result.now ≡ drivers_at self.now.board net }
     {

@@ -1,4 +1,4 @@
--- The class of a net that the code finds from the facts and the table of controls is the class that the definitions on the board give.
+-- From the facts about a net and the table of controls, the code finds the class that the definitions on the board give the net.
 use Rattle.std.proofs.Common.{◌≡◌, ℕ, ◌==◌, Bool, true, false, not, ◌&&◌, List, [], ◌∷◌, map, length, Option, Some, None, refl, sym, ◌∙◌, ap, subst, cond, inl}
 use Rattle.std.specs.Prelude.{slice_get, option_map, filter_map, is_some}
 use Rattle.std.specs.List.{list_any, range_with_len, cons_option}
@@ -34,7 +34,7 @@ use Rattle.net_facts.specs.Kept.{pin_class_of, net_class_of}
 use Rattle.net_facts.specs.inner.Answers.{safe_in, may_be_enabled, drive_of_pin, drive_of, reads_in, reads_at, enables_at_place, receiver_places, enablers_of, tested_in, reader_tested_in, pin_class_in, tested_drive_in, tested_drives_in, first_reason_in, reason_in, class_in}
 use Rattle.net_facts.proofs.FoundLemmas.{elsewhere_is, passes_in}
 
--- the table says for each control whether it is safe alone
+-- the table says for each control whether it is safe alone, that is, whether the setting with this control alone is safe
 abbrev pub SaysSafe : RawBoard → List (List ControlClass) → Type 0
 SaysSafe board rows = (c : Ctl) → IsCell board c → safe_in rows c ≡ is_safe_alone board c
 

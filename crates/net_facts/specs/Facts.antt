@@ -9,7 +9,7 @@ use Rattle.board_defs.specs.Decided.{is_closed}
 use Rattle.net_facts.specs.declared.facts.PinFacts.{PinFacts}
 use Rattle.net_facts.specs.declared.facts.NetFacts.{NetFacts}
 
--- the facts about a pin of the net
+-- the facts about a pin of the net that do not depend on settings
 abbrev pub pin_facts_of : RawBoard → Net → NetPin → PinFacts
 pin_facts_of board net pin = record { at = pin.at; drive = drive board net pin; receives = receives board pin }
 

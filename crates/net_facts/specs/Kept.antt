@@ -47,7 +47,7 @@ contends_there board c (Some net) = is_contended board c net
 abbrev pub shared_nets : RawBoard → Ctl → List ℕ
 shared_nets board c = filter (λ n. contends_there board c (slice_get board.nets n)) (range_with_len 0 (length board.nets))
 
--- the class of the pin at `place` of the net
+-- the roles of the pin at `place` of the net, and the roles in which some safe setting tests it
 abbrev pub pin_class_of : RawBoard → Net → ℕ → PinClass
 pin_class_of board net place =
     record {
@@ -59,7 +59,7 @@ pin_class_of board net place =
           (slice_get net.pins place);
     }
 
--- the class of a net
+-- the reason why a net is not covered, if it is not, its tested drivers, and the classes of its pins
 abbrev pub net_class_of : RawBoard → Net → NetClass
 net_class_of board net =
     record {
@@ -69,11 +69,12 @@ net_class_of board net =
           (pin_class_of board net) (range_with_len 0 (length net.pins));
     }
 
--- the class of a control
+-- the nets with a driver of a control, whether the control is safe alone, and whether it is useful
 abbrev pub control_class_of : RawBoard → Ctl → ControlClass
 control_class_of board c = record { nets = driven_nets board c; safe = is_safe_alone board c; useful = is_useful board c }
 
--- `known` has the facts about the board
+-- `known` has the facts and the class of each net, the class of each control, the useful controls, and the nets that each control shares
+-- with another control
 pub record AreBoardFacts (board : RawBoard) (known : BoardFacts) : Type 0 where
   pub facts_are : known.facts.items ≡ map (net_facts_of board) board.nets
   pub nets_are : known.nets.items ≡ map (net_class_of board) board.nets

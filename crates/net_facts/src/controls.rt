@@ -93,8 +93,8 @@ fn note_net(
     Ok(())
 }
 
-/// Adds to each control the nets on which it has drivers, and marks the control as unsafe if one of these nets makes it
-/// unsafe. There must be at most 16,382 nets.
+/// Adds to each control the nets on which it has drivers. Marks a control as unsafe if it has two drivers on one of the
+/// nets, or a driver on a net on which no control may enable a driver. There must be at most 16,382 nets.
 fn note_all(rows: &mut [Vec<ControlClass>], nets: &[NetFacts]) -> Result<(), AllocError>
     requires { length nets.now ≤ most_nets }
     ensures { OnOk result (table rows.new ≡ note_nets nets.now (length nets.now) (table rows.old)) }

@@ -91,7 +91,7 @@ pub fn pulled_bits(
     Ok(rows)
 }
 
-/// Returns whether the flag of the port bit is set.
+/// Returns whether the flag of the port bit is set. Returns false if the table has no such port bit.
 pub fn is_marked(rows: &[Vec<bool>], at: PinAt) -> bool
     ensures { result ≡ is_marked (table rows.now) at }
 {

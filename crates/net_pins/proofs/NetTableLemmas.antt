@@ -1,4 +1,5 @@
--- The tables of a board have the drivers and the compared cells of each net.
+-- Item `n` of a board's table of drivers has the drivers of net `n`, and item `n` of its table of compared cells has the compared cells of
+-- the net.
 use Rattle.std.proofs.Common.{◌≡◌, ℕ, List, [], map, get_or, Some, ap, ◌∙◌}
 use Rattle.std.specs.Prelude.{slice_get}
 use Rattle.std.proofs.lemmas.List.{get_or-map}

@@ -70,7 +70,7 @@ read_beside = refl
 read_twice : observer 4 [] ≡ Some 1
 read_twice = refl
 
--- no driver of a guarded net counts, and there is no net with the number 5
+-- the tables leave out the drivers of the guarded net 2, and there is no net 5
 none_enabled : map (λ n. enabled n (c 0 1 ∷ c 1 1 ∷ [])) (2 ∷ 5 ∷ []) ≡ None ∷ None ∷ []
 none_enabled = refl
 

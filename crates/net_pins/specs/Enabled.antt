@@ -24,11 +24,11 @@ is_read_beside readers d = list_any (λ r. not (r.place == d.place)) readers
 abbrev pub observing_of : Enabling → List NetDriver → List ReaderCell → Option NetDriver
 observing_of setting drivers readers = option_and_then (λ d. cond (is_read_beside readers d) (Some d) None) (enabled_in setting drivers)
 
--- the drivers of net n, or none if the net is guarded
+-- the drivers of net n in pin order, or none if the net is guarded or there is no net n
 abbrev pub drivers_on : NetTables → ℕ → List NetDriver
 drivers_on nets n = slice_index_or nets.drivers n []
 
--- the compared cells of net n
+-- the compared cells of net n, or none if there is no net n
 abbrev pub readers_on : NetTables → ℕ → List ReaderCell
 readers_on nets n = slice_index_or nets.readers n []
 

@@ -44,7 +44,8 @@ driver_of board place (Some at) = option_map (net_driver board at.part place) (e
 abbrev pub drivers_of_pins : RawBoard → List NetPin → List NetDriver
 drivers_of_pins board pins = gathered (λ place pin. optional (driver_of board place pin.at)) 0 pins
 
--- The drivers of a net that a setting may enable, in pin order. A guarded net has none.
+-- The drivers of a net, in pin order, or none if the net is guarded. Every setting enables the always-on drivers of a guarded net, but no
+-- setting observes the net by them.
 abbrev pub drivers_of : RawBoard → Net → List NetDriver
 drivers_of board net = cond (guarded board net) [] (drivers_of_pins board net.pins)
 
@@ -66,10 +67,10 @@ readers_at board place (Some at) = cond (receives_where board (Some at)) (reader
 abbrev pub readers_of : RawBoard → List NetPin → List ReaderCell
 readers_of board pins = gathered (λ place pin. readers_at board place pin.at) 0 pins
 
--- for each net, the drivers that a setting may enable
+-- for each net, its drivers in pin order, or none if the net is guarded
 abbrev pub all_drivers : RawBoard → List (List NetDriver)
 all_drivers board = map (drivers_of board) board.nets
 
--- for each net, the compared cells
+-- for each net, its compared cells in pin order
 abbrev pub all_readers : RawBoard → List (List ReaderCell)
 all_readers board = map (λ net. readers_of board net.pins) board.nets

@@ -16,7 +16,7 @@ pub record ArePinTables (board : RawBoard) (tables : PinTables) : Type 0 where
   pub entries : AreEntries board tables.entries
   pub guards : tables.guarded ≡ map (guarded board) board.nets
 
--- the drivers of each net of the board that a setting may enable, and the compared cells of each net
+-- The tables have, for each net of the board, its drivers and its compared cells. They leave out the drivers of guarded nets.
 pub record AreNetTables (board : RawBoard) (nets : NetTables) : Type 0 where
   pub drivers_are : nets.drivers ≡ all_drivers board
   pub readers_are : nets.readers ≡ all_readers board

@@ -57,7 +57,7 @@ impl<'a> BoardPins<'a> {
         is_set(self.tables.guarded.as_slice(), net)
     }
 
-    /// Returns the entries of the port bit at `at`, in order.
+    /// Returns the entries of the port bit at `at`, in the order of the device's list of entries.
     pub fn entries(&self, at: PinAt) -> &'a [Cell]
         ensures { result.now ≡ entries_of (device_at self.now at.part) at.bit }
     {
@@ -71,7 +71,7 @@ impl<'a> BoardPins<'a> {
         driving_entry(self.tables.entries.as_slice(), self.board.raw(), at)
     }
 
-    /// Returns whether the pin at this place of the chain is a receiver. Returns false if the pin has no place.
+    /// Returns whether the pin at `at` is a receiver. Returns false if `at` is `None`.
     pub fn receives(&self, at: Option<PinAt>) -> bool
         ensures { result ≡ receives_where self.now at }
     {

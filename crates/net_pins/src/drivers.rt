@@ -1,4 +1,4 @@
-// Collects, for each net, the drivers that a setting may enable.
+// Collects the drivers of each net. Leaves out the drivers of guarded nets.
 ghost use Rattle.std.specs.Prelude.{◌≡◌, ◌≤◌, length, map, IfOk, All};
 ghost use Rattle.board_defs.specs.Limits.{most_pins};
 ghost use Rattle.net_pins.specs.NetCells.{all_drivers, drivers_of};
@@ -25,7 +25,7 @@ fn drivers_of_nets(
     Ok(Items::of(drivers))
 }
 
-/// Returns, for each net, the drivers that a setting may enable.
+/// Returns, for each net, its drivers in pin order. The list of a guarded net is empty.
 pub fn all_drivers(
     alloc: Global,
     board: &BoardPins<'_>,

@@ -23,8 +23,8 @@ fn guarded_of(
     Ok(flags)
 }
 
-/// Returns a flag for each net that is true if the net is guarded. On a guarded net, no setting may enable a controlled
-/// or a one-sided driver. `entries` must be the entries of the board's port bits.
+/// Returns a flag for each net that is true if the net is guarded. No safe setting enables a controlled or a one-sided
+/// driver of a guarded net. `entries` must be the entries of the board's port bits.
 pub fn guarded_nets(
     alloc: Global,
     board: &Board,

@@ -1,9 +1,9 @@
 //! The cells on the nets of a board, collected once for its classes and its plan.
 //!
 //! [`PinTables`] has the entries of each port bit, the position of each part in data scans, and the guarded nets.
-//! [`BoardPins`] is a board with these tables, and answers questions about its pins. [`NetTables`] has, for each net,
-//! the drivers that a setting may enable and the compared cells. It answers which driver of a net a setting enables,
-//! and whether the setting observes the net. [`NetPins`] has the tables of both kinds.
+//! [`BoardPins`] is a board with these tables, and answers questions about its pins. [`NetTables`] has the compared
+//! cells of each net and the drivers of each unguarded net. It answers which driver of an unguarded net a setting
+//! enables, and by which driver the setting observes the net. [`NetPins`] has the tables of both kinds.
 #![tactic(auto)]
 
 mod board_pins;

@@ -11,16 +11,17 @@ use crate::readers::all_readers;
 use board_defs::{Items, Setting};
 use std::alloc::{AllocError, Global};
 
-/// The drivers and the compared cells of each net of a board.
+/// The drivers and the compared cells of each net of a board. Every setting enables the always-on drivers of a guarded
+/// net, but no setting observes the net by them, so the tables leave out all drivers of guarded nets.
 #[derive(Drop)]
 pub struct NetTables {
-    /// For each net, the drivers that a setting may enable, in pin order. A guarded net has none.
+    /// For each net, its drivers in pin order. The list of a guarded net is empty.
     pub drivers: Items<Items<NetDriver>>,
     /// For each net, the compared cells, in pin order.
     pub readers: Items<Items<ReaderCell>>,
 }
 
-// Returns the items of net `n`. There are none if no net has this number.
+// Returns the items of net `n`. Returns no items if no net has this number.
 #[inline]
 fn items_at<T>(rows: &[Items<T>], n: u32) -> &[T]
     ensures { result.now ≡ slice_index_or rows.now n [] }
@@ -31,7 +32,7 @@ fn items_at<T>(rows: &[Items<T>], n: u32) -> &[T]
     }
 }
 
-// Returns the first of these drivers that the setting enables.
+// Returns the first of these drivers that the setting enables, if there is one.
 fn enabled(drivers: &[NetDriver], setting: &Setting) -> Option<NetDriver>
     ensures { result ≡ enabled_in (holds setting.now) drivers.now }
 {
@@ -43,7 +44,7 @@ fn enabled(drivers: &[NetDriver], setting: &Setting) -> Option<NetDriver>
     None
 }
 
-// Returns the driver if one of these cells reads a pin other than the driver's.
+// Returns the driver if one of these cells reads a pin other than the driver's, or `None` otherwise.
 fn where_read(driver: NetDriver, readers: &[ReaderCell]) -> Option<NetDriver>
     ensures { result ≡ (if is_read_beside readers.now driver then Some driver else None) }
 {
@@ -64,7 +65,7 @@ impl NetTables {
         Ok(NetTables { drivers, readers })
     }
 
-    /// Returns the drivers of a net that a setting may enable, in pin order. There are none if no net has this number.
+    /// Returns the drivers of a net, in pin order. Returns no drivers if the net is guarded or no net has this number.
     #[inline]
     pub fn drivers(&self, net: u32) -> &[NetDriver]
         ensures { result.now ≡ drivers_on self.now net }
@@ -72,7 +73,7 @@ impl NetTables {
         items_at(self.drivers.as_slice(), net)
     }
 
-    /// Returns the compared cells of a net, in pin order. There are none if no net has this number.
+    /// Returns the compared cells of a net, in pin order. Returns no cells if no net has this number.
     #[inline]
     pub fn readers(&self, net: u32) -> &[ReaderCell]
         ensures { result.now ≡ readers_on self.now net }
@@ -80,8 +81,9 @@ impl NetTables {
         items_at(self.readers.as_slice(), net)
     }
 
-    /// Returns the first driver of a net that the setting enables, if there is one. A safe setting enables at most one
-    /// driver of the net.
+    /// Returns the first driver of an unguarded net that the setting enables, if there is one. A safe setting enables
+    /// at most one driver of the net. Returns `None` for a guarded net, although the setting enables its always-on
+    /// drivers.
     pub fn enabled(&self, setting: &Setting, net: u32) -> Option<NetDriver>
         ensures { result ≡ enabled_on self.now (holds setting.now) net }
     {
@@ -89,7 +91,7 @@ impl NetTables {
     }
 
     /// Returns the driver by which a setting observes a net, if there is one: the first driver that the setting
-    /// enables, if another pin of the net has a compared cell.
+    /// enables, if another pin of the net has a compared cell. No setting observes a guarded net.
     pub fn observer(&self, setting: &Setting, net: u32) -> Option<NetDriver>
         ensures { result ≡ observer_on self.now (holds setting.now) net }
     {

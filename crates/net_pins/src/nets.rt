@@ -111,8 +111,8 @@ fn drivers_of_pins(
     Ok(Items::of(drivers))
 }
 
-/// Returns the drivers of a net that a setting may enable, in pin order. A guarded net has no such driver, and
-/// `is_guarded` must say whether the net is guarded. The net must have at most 65,535 pins.
+/// Returns the drivers of a net, in pin order, or no drivers if the net is guarded. `is_guarded` must say whether the
+/// net is guarded. The net must have at most 65,535 pins.
 pub fn drivers_of(
     alloc: Global,
     board: &BoardPins<'_>,

@@ -15,9 +15,9 @@ pub struct PinTables {
     pub firsts: Items<u32>,
     /// The entries of each port bit of each part.
     pub entries: Items<Items<BitEntries>>,
-    /// A flag for each net, which is true if the net is guarded. On a guarded net, no setting may enable a controlled
-    /// or a one-sided driver. No setting observes such a net, so `NetTables` has no driver of it, not even one that is
-    /// always on.
+    /// A flag for each net, which is true if the net is guarded. No safe setting enables a controlled or a one-sided
+    /// driver of a guarded net. Every setting enables the net's always-on drivers, but no setting observes the net by
+    /// them, so `NetTables` leaves them out.
     pub guarded: Items<bool>,
 }
 

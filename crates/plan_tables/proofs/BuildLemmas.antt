@@ -21,7 +21,7 @@ cell_there board part cell less = by_device (device_at board part) refl less
     by_device None e less = absurd (omega (arith, less))
     by_device (Some device) e less = record { device = device; is_device = e; below = less }
 
--- One turn of a loop over the parts, which goes from the last part to the first.
+-- The loop over the parts goes from the last part to the first. Each turn appends the bits of one part.
 pub part_more : (g : CellBits) (chain : List Part) (i : ℕ) (d : Part) → 0 < i → i ≤ length chain →
     joined (parts_laid g (i - 1) (drop (i - 1) chain))
     ≡ joined (parts_laid g i (drop i chain))

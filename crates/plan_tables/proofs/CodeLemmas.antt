@@ -41,7 +41,7 @@ code_mask (a ∷ b ∷ code) n e long =
 abbrev pub bits_of : Instruction → List Part → List ScanBit
 bits_of instruction parts = (instructs (map (λ part. code_for instruction part.kind) parts)).bits
 
--- When the loop ends at part 0, the row has the bits of all parts.
+-- At the end of the loop, `i` is 0, so the row has the bits of all parts. They fit in a row.
 pub few_left : (instruction : Instruction) (chain : List Part)
     → length (bits_of instruction chain) ≤ most_bits → (i : ℕ) → i ≡ 0 → (row : ScanBit → Bool) →
     length (map row (bits_of instruction (drop i chain))) ≤ most_bits

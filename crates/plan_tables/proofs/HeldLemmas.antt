@@ -1,4 +1,4 @@
--- Lemmas about the quiet row and about the cells of the passes' controls.
+-- Lemmas about the quiet row, which disables every driver that has a control, and about the cells of the passes' controls.
 use Rattle.std.proofs.Common.{◌≡◌, ℕ, ◌<◌, ◌==◌, Bool, true, false, ◌&&◌, Option, Some, None, unwrap_or, refl, sym, ap, ◌∙◌, subst}
 use Rattle.std.specs.Prelude.{option_and_then, option_map}
 use Rattle.std.specs.List.{list_any}

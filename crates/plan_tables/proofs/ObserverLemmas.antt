@@ -1,4 +1,5 @@
--- Proofs that a pass observes nets by the observers that it enables, and by no other drivers.
+-- An observer is a driver of a net on which another pin has a compared cell. Proofs that a pass observes nets by the observers that it
+-- enables, and by no other drivers.
 use Rattle.std.proofs.Common.{◌≡◌, ℕ, ◌+◌, ◌<◌, Bool, true, false, cond, List, [], length, map, get_or, Option, Some, None, refl, sym, ap, ◌∙◌, subst, arith, ◌⊎◌, inl, inr}
 use Rattle.std.specs.Prelude.{slice_get, option_map, option_and_then, filter, find, All}
 use Rattle.std.proofs.lemmas.Option.{slice_get-get_or, slice_get_within}

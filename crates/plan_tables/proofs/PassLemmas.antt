@@ -1,4 +1,5 @@
--- A fold over the driver cells of a pass may go over the controls of the pass in turn.
+-- A fold over the driver cells of a pass is a fold over the always-on driver cells, and then, for each control of the pass in turn, over
+-- the driver cells of this control.
 use Rattle.std.proofs.Common.{◌≡◌, Bool, List, [], ◌++◌, fold, get_or, sym, ap, ◌∙◌}
 use Rattle.std.specs.List.{flat_map}
 use Rattle.std.proofs.lemmas.List.Folds.{flat_map-map}

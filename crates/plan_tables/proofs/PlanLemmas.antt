@@ -149,7 +149,6 @@ pins_most board rules k d less =
     let f : Net → ℕ = λ net. length net.pins in
     omega (arith, rules.pins_most, sum_by-take-drop f board.nets k, sum_by-drop_more f board.nets k d less)
 
--- Collects what the definition of a plan requires.
 pub is_plan : (board : RawBoard) → IsBoard board → (plan : PlanTables)
     → ArePlannable board plan.passes → plan.quiet.bits ≡ bits_of_parts (quiet_bits board) board →
     AreNetTables board plan.nets → AreFirsts board.chain plan.firsts

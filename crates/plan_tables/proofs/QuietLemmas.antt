@@ -1,4 +1,4 @@
--- Proofs that three walks over the entries of a device give the device's bits of the quiet row.
+-- Proofs that three walks over the entries of a device give the bits of the device in the quiet row, in which no control is enabled.
 use Rattle.std.proofs.Common.{◌≡◌, ℕ, zero, suc, ◌<◌, ◌==◌, Bool, true, false, cond, ◌&&◌, List, [], ◌∷◌, length, get_or, set, replicate, Option, Some, None, unwrap_or, refl, sym, ap, ◌∙◌, arith, ◌⊎◌, inl, inr}
 use Rattle.std.specs.Prelude.{slice_get, option_and_then, option_map, filter_map}
 use Rattle.std.specs.List.{list_any, cons_option}
@@ -132,7 +132,8 @@ entry_is roles device one i e stands role =
     let p = and_parts (y.0.num == e.num) (roles y.0.role) f.0 in
     y.1 ∙ ap (λ (x : Cell). Some x) (one i f.1.0 e y.0 stands role f.1.1 p.1 (eqb-true y.0.num e.num p.0))
 
--- One walk over the entries with a function in `roles` turns the bits of `g` into the bits of `h`.
+-- Let `h` have the safe value of each cell with an entry whose function is in `roles`, and the bit of `g` for each other cell. One walk
+-- over these entries turns the bits of `g` into the bits of `h`.
 safe_walk : (roles : Role → Bool) (device : RawDevice) → IsDevice device → HasOne roles device → (g h : ℕ → Bool) →
     ((cell : ℕ) (e : Cell) → entry_of roles device cell ≡ Some e → h cell ≡ bit_of e.safe)
     → ((cell : ℕ) → entry_of roles device cell ≡ None → g cell ≡ h cell) →

@@ -42,7 +42,7 @@ mask = refl
 have_one : map (list_any (λ bit. bit)) (replicate 5 false ∷ compared (λ d. true) ∷ []) ≡ false ∷ true ∷ []
 have_one = refl
 
--- of five nets, some pass observes nets 0, 2 and 3
+-- the flags of five nets: some pass observes nets 0, 2 and 3, and no pass observes nets 1 and 4
 abbrev seen : List Bool
 seen = true ∷ false ∷ true ∷ true ∷ false ∷ []
 
@@ -75,8 +75,8 @@ table : table_of (driver 0 (Some 4) ∷ driver 1 None ∷ driver 2 (Some 5) ∷ 
     ≡ record { always = cell 1 ∷ []; rows = [] ∷ [] ∷ [] ∷ [] ∷ (cell 0 ∷ cell 3 ∷ []) ∷ (cell 2 ∷ []) ∷ [] }
 table = refl
 
--- Both of two passes hold position 4. One of them holds position 5, and one holds position 1, which is also the cell of
--- a driver.
+-- Each of two passes has a control with its cell at position 4. Only pass 0 has one at position 1, and only pass 1 has one at position 5.
+-- The cell of driver 1 is at position 1 too.
 abbrev uses : Uses
 uses = record { held = false ∷ true ∷ false ∷ false ∷ true ∷ true ∷ []; runs = 0 ∷ 1 ∷ 0 ∷ 0 ∷ 2 ∷ 0 ∷ [] }
 

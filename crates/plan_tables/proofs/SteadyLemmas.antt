@@ -98,7 +98,8 @@ flagged board quiet passes uses are x pass e h own within =
     (has_flat_map cells passes pass h (has_at passes x pass e) own)
     (omega (arith, within, length-replicate (length quiet) false))
 
--- observer `x` is steady: there is a pass, each pass enables the observer, and no pass has a control with the observer's cell
+-- observer `x` is steady: `passes` is not 0, no pass has a control with the observer's cell, and the observer has no control or the run of
+-- its control is exactly `passes`
 pub record Steady (uses : Uses) (passes : ℕ) (x : Observer) : Type 0 where
   pub some : 0 < passes
   pub free : get_or uses.held x.cell.position false ≡ false

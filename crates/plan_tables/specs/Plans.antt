@@ -36,7 +36,8 @@ pub record ArePlannable (board : RawBoard) (passes : List (List Ctl)) : Type 0 w
 abbrev pub code_or_zero : RawBoard → List (List Ctl) → ℕ → Net → ℕ
 code_or_zero board passes n net = cond (is_observed board passes net) (code_of_net board passes n) 0
 
--- `plan` is a plan of the board for the passes in `plan.passes`
+-- `plan` is a plan of the board: it can be made from the passes in `plan.passes`, and its codes, their width and its tables are those of
+-- the board and these passes
 pub record IsPlanOf (board : RawBoard) (plan : PlanTables) : Type 0 where
   pub plannable : ArePlannable board plan.passes
   pub width_is : plan.width ≡ code_width (observed_count board plan.passes)

@@ -1,4 +1,5 @@
--- The tables of a plan: the rows that all passes share, and the positions at which the rows of a pass differ from the quiet row.
+-- The tables of a plan: the rows that all passes share, and the positions at which the rows of a pass differ from the quiet row. The quiet
+-- row disables every driver that has a control.
 use Rattle.std.specs.Prelude.{◌≡◌, ◌≢◌, ◌↔◌, ℕ, ◌+◌, Bool, true, false, not, List, [], ◌++◌, length, map, Some, slice_get, slice_index_or, unwrap_or, Contains}
 use Rattle.std.specs.List.{flat_map}
 use Rattle.board_defs.specs.declared.device.Cell.{Cell}
@@ -63,7 +64,7 @@ pub record IsReaderCell (board : RawBoard) (net : Net) (r : ReaderCell) : Type 0
   pub reads : reads_bit at.bit entry ≡ true
   pub position_is : r.position ≡ first_position board at.part + entry.num
 
--- the cells in which the rows of a pass differ from what all passes share
+-- the cells that a pass sets in the rows that all passes share: the cells of its controls, and its driver cells that are not steady
 pub record PassCells : Type 0 where
   pub held : List HeldCell
   pub drivers : List DriverCell
@@ -76,7 +77,8 @@ held_cell board quiet c = record { position = control_position board c; bit = no
 abbrev pub controlled : RawBoard → List (List DriverCell) → Ctl → List DriverCell
 controlled board rows c = slice_index_or rows (control_position board c) []
 
--- the driver cells that the table has for a pass; `held` has the cells of the controls of the pass
+-- the driver cells that the table has for a pass: the always-on ones, and those of the controls; `held` has the cells of the pass's
+-- controls
 abbrev pub cells_on : DriverTable → List HeldCell → List DriverCell
 cells_on table held = table.always ++ flat_map (λ h. slice_index_or table.rows h.position []) held
 
@@ -97,7 +99,8 @@ pub record ArePassCells (board : RawBoard) (steady : List DriverCell) (pass : Li
 abbrev pub AreReaders : RawBoard → Net → List ReaderCell → Type 0
 AreReaders board net readers = (r : ReaderCell) → Contains readers r ↔ IsReaderCell board net r
 
--- `plan` has the tables of a plan for the board
+-- `plan` has the two instruction scans, the quiet row, the position of each part's first bit, the cells of each pass, and the compared
+-- cells of each net of the board
 pub record ArePlanTables (board : RawBoard) (plan : PlanTables) : Type 0 where
   pub preload : AreRowsOf ((instructs (map (λ part. preload_code part.kind) board.chain)).bits) plan.preload
   pub extest : AreRowsOf ((instructs (map (λ part. extest_code part.kind) board.chain)).bits) plan.extest

@@ -37,7 +37,8 @@ struct PlanParts {
     passes: PassParts,
 }
 
-// Returns the rows that all passes share: the quiet row and the rows of the two instruction scans.
+// Returns the rows that all passes share: the rows of the two instruction scans, and the quiet row, which disables
+// every driver that has a control.
 fn board_rows(alloc: Global, board: &Board) -> Result<BoardRows, AllocError>
     ensures { IfOk result (λ rows. AreBoardRows board.now rows) }
 {
@@ -52,8 +53,8 @@ fn board_rows(alloc: Global, board: &Board) -> Result<BoardRows, AllocError>
 }
 
 // Returns the driver table of the observers that are not steady. An observer is a driver by which its net can be
-// observed. It is steady if every pass enables it and no pass has a control with the observer's cell. `passes` is the
-// number of passes, and `bits` is the number of bits in a data scan.
+// observed. It is steady if there is a pass, every pass enables it and no pass has a control with the observer's cell.
+// `passes` must be the number of passes, and `bits` is the number of bits in a data scan.
 fn moving_table(
     alloc: Global,
     uses: &Uses,

@@ -14,8 +14,8 @@ use std::alloc::{AllocError, Global};
 /// The cells of the drivers that one control enables.
 pub type ControlCells = Items<DriverCell>;
 
-/// The cells of the drivers by which passes observe nets. `always` has the cells of the drivers that are always on.
-/// `rows` has, at the position of each control's cell, the cells of the drivers of that control.
+/// The cells of drivers by which passes observe nets. `always` has the cells of the drivers that are always on. `rows`
+/// has, at the position of each control's cell, the cells of the drivers of that control.
 #[derive(Drop)]
 pub struct DriverTable {
     pub always: Items<DriverCell>,
@@ -43,7 +43,7 @@ fn always_on(alloc: Global, observers: &[Observer]) -> Result<Vec<DriverCell>, A
     Ok(cells)
 }
 
-/// Returns the table of these drivers, for data scans of `bits` bits.
+/// Returns the table of the cells of these drivers. It has `bits` rows, one for each position in data scans.
 pub fn driver_table(
     alloc: Global,
     observers: &[Observer],

@@ -3,7 +3,7 @@
 //! `tables_of` makes the tables for a board and passes. Each pass must be safe, and each of its controls must control a
 //! driver of the board. The tables have:
 //!
-//! - the two instruction scans and the quiet row;
+//! - the two instruction scans and the quiet row, which disables every driver that has a control;
 //! - the positions of the cells at which the data rows differ from the quiet row;
 //! - for each net, its code, its drivers and the cells that read it.
 //!

@@ -115,8 +115,8 @@ fn set_disabled(raw: &RawBoard, part: u32, entries: &[Cell], row: &mut [bool])
     }
 }
 
-// Returns the bits of a device in the quiet row. Of three walks over the entries, the later ones overwrite bits of the
-// earlier ones.
+// Returns the bits of a device in the quiet row. Walks over the entries three times. Each walk overwrites bits of the
+// earlier walks.
 fn device_row(
     alloc: Global,
     raw: &RawBoard,

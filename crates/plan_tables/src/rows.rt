@@ -1,4 +1,4 @@
-// Makes rows of bits.
+// Makes a row from a slice of bits.
 ghost use Rattle.std.specs.Prelude.{◌≡◌, ◌≤◌, length, IfOk};
 ghost use Rattle.board_defs.specs.Limits.{most_bits};
 

@@ -5,7 +5,7 @@ use bt_bits::Row;
 use net_pins::NetTables;
 use tap_defs::StoredRows;
 
-/// The cell of a control that a pass holds: its position in data scans, and the bit that enables the control's drivers.
+/// The cell of a control of a pass: its position in data scans, and the bit that enables the control's drivers.
 #[derive(Clone, Copy)]
 pub struct HeldCell {
     pub position: u32,
@@ -21,7 +21,8 @@ pub struct DriverCell {
     pub position: u32,
 }
 
-/// The rows that all passes of a plan share: the quiet row and the two instruction scans.
+/// The rows that all passes of a plan share: the two instruction scans, and the quiet row, which disables every driver
+/// that has a control.
 #[derive(Drop)]
 pub struct BoardRows {
     pub quiet: Row,

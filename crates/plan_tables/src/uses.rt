@@ -125,8 +125,9 @@ fn is_common(uses: &Uses, passes: u32, control: Option<u32>) -> bool
     }
 }
 
-// Returns whether the observer is steady: there is at least one pass, each of the first `passes` passes enables the
-// driver, and no pass has a control with the driver's cell.
+// Returns whether the observer is steady: `passes` is not 0, no pass has a control with the driver's cell, and the
+// driver has no control or the run of its control is exactly `passes`. If `passes` is the number of passes, every pass
+// then enables the driver.
 fn is_steady(uses: &Uses, passes: u32, observer: Observer) -> bool
     ensures { result ≡ is_steady uses.now passes observer }
 {

@@ -7,7 +7,7 @@ use board_defs::Cell;
 use few_items::Few;
 use std::alloc::{AllocError, Global};
 
-/// The entries of a port bit, in order.
+/// The entries of a port bit, in the order of the device's list of entries.
 pub type BitEntries = Few<Cell>;
 
 /// Returns a row with `count` port bits that have no entries.
@@ -31,7 +31,7 @@ fn note(alloc: Global, row: &mut [BitEntries], place: usize, cell: Cell) -> Resu
     Ok(())
 }
 
-/// Adds the entry to the port bit at `place`, if there is a place.
+/// Adds the entry to the port bit at `place`. Does nothing if there is no place, or if the row has no such port bit.
 pub(crate) fn note_cell(
     alloc: Global,
     row: &mut [BitEntries],

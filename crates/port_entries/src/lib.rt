@@ -1,5 +1,6 @@
-//! A table of the entries of each port bit of a board's parts, and the facts about pins and nets that follow from it.
-//! With the table, no function searches all cells of a part to answer a question about a pin.
+//! A table that has, for each port bit of each part of a board, the entries of the part's boundary register that name
+//! this port bit. Functions find driving entries, receivers, dark pins and guarded nets in this table, without a search
+//! through all entries of a part.
 #![tactic(auto)]
 
 mod bit_entries;

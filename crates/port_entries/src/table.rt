@@ -72,7 +72,8 @@ fn entries_there(row: &[BitEntries], bit: usize) -> &[Cell]
     }
 }
 
-/// Returns the entries of the port bit at `at`, in order. Returns no entries if the table has no such port bit.
+/// Returns the entries of the port bit at `at`, in the order of the device's list of entries. Returns no entries if the
+/// table has no such port bit.
 pub fn entries_at(rows: &[Items<BitEntries>], at: PinAt) -> &[Cell]
     ensures { result.now ≡ entries_at rows.now at }
 {

@@ -11,11 +11,12 @@ use Rattle.response_log.specs.LogRows.{LogAnswer, NumberedLine, line_with, log_t
 use Rattle.response_log.specs.Kept.{text_at}
 use Rattle.response_log.proofs.KeptLemmas.{put_behind}
 
--- The answer for `found` lines without an offense, whose rows are `log`: the log, or `Missing` if there are fewer than `rows` lines.
+-- What `found` lines give if none of them has an offense and their rows are `log`: the log, or `Missing` if there are fewer than `rows`
+-- lines.
 abbrev pub counted : ℕ → ℕ → List (List Bool) → LogAnswer
 counted rows found log = cond (nat_lt found rows) (Err (Missing found)) (Ok log)
 
--- the answer for these lines, if the rows of `log` come before them
+-- the log that the rows of `log` and these later lines give, or the first fault of the lines
 abbrev pub rows_after : ℕ → ℕ → List (List Bool) → List NumberedLine → LogAnswer
 rows_after rows len log lines =
     first_or (counted rows (length log + length lines) (log ++ filter_map (bits_of_line len) lines))

@@ -182,8 +182,8 @@ module _ (rows len : ℕ) where
   to : (lines : List NumberedLine) (fault : LogFault) → rows_of_lines rows len lines ≡ Err fault → IsFirst lines fault
   to lines fault is = first [] lines [] fault (All-nil (IsLogRow len)) refl (omega arith) (sym (rows_after-nil rows len lines) ∙ is)
 
-  -- The lines `before` come after the rows of `log`, and `passed` has as many rows as both together. The answer for the lines `before` and
-  -- `later` is then the answer for the lines `later` after the rows `passed`.
+  -- The lines `before` come after the rows of `log`, and `passed` has as many rows as both together. The lines `before` and `later` then
+  -- give the same log or fault as the lines `later` after the rows `passed`.
   record Passed (before later : List NumberedLine) (log : List (List Bool)) : Type 0 where
     passed : List (List Bool)
     count : length passed ≡ length log + length before

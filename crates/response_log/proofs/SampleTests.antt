@@ -1,4 +1,4 @@
--- Samples of the answers that the definition gives for small texts, worked out by hand.
+-- Samples of the logs and faults that the definition gives for small texts, worked out by hand.
 use Rattle.std.proofs.Common.{◌≡◌, true, false, Ok, Err, [], ◌∷◌, refl}
 use Rattle.std.specs.Prelude.{codes}
 use Rattle.text_lines.specs.Words.{words_of}

@@ -37,7 +37,7 @@ only_word [] = None
 only_word (word ∷ []) = Some word
 only_word (word ∷ other ∷ words) = None
 
--- the bits of a line that is a row; a row is one word, the hexadecimal field of `len` bits
+-- The bits of a line that is a row, or None if the line is not a row. A row is one word, the hexadecimal field of `len` bits.
 abbrev pub bits_of_line : ℕ → NumberedLine → Option (List Bool)
 bits_of_line len line = option_and_then (field_bits len) (only_word line.words)
 
@@ -94,6 +94,6 @@ pub record HasSize (count len : ℕ) (log : List (List Bool)) : Type 0 where
 abbrev pub log_bit : List (List Bool) → ℕ → ℕ → Option Bool
 log_bit log row at = option_and_then (λ bits. slice_get bits at) (slice_get log row)
 
--- one bit of a log, or 0 if the log has no such bit
+-- bit `at` of a row of a log, or false if the log has no such bit
 abbrev pub bit_in : List (List Bool) → ℕ → ℕ → Bool
 bit_in log row at = slice_index_or (slice_index_or log row []) at false

@@ -1,4 +1,5 @@
--- Proofs that the controls of nets' drivers, and the useful controls, control a driver of the board.
+-- Proofs that each control of a net's driver controls a driver of the board, and so does each useful control. A control is useful if the
+-- setting with this control alone is safe and enables a tested driver.
 use Rattle.std.proofs.Common.{◌≡◌, ℕ, ◌==◌, Bool, true, false, ◌&&◌, Option, Some, None, refl, sym, ap, ◌∙◌}
 use Rattle.std.specs.Prelude.{length, slice_get, unwrap_or, option_map, option_and_then, if◌then◌else◌}
 use Rattle.std.specs.List.{list_any}

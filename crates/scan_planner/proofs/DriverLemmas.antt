@@ -1,4 +1,5 @@
--- Proofs that setting the bits of the observed nets in the cells of their drivers gives the row of the pass.
+-- Proofs about the row of a pass. In the row in which no cell carries a net's bit, set the cell of each observing driver to the bit of its
+-- net. The result is the row of the pass.
 use Rattle.std.proofs.Common.{◌≡◌, ℕ, ◌+◌, ◌==◌, Bool, true, false, List, Option, Some, None, unwrap_or, refl, sym, ap, ◌∙◌, subst, arith, ◌⊎◌, inl, inr}
 use Rattle.std.specs.Prelude.{slice_get, option_and_then}
 use Rattle.std.proofs.lemmas.Bool.{eq-eqb, eqb-true}

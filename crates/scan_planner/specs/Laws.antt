@@ -12,7 +12,7 @@ use Rattle.plan_tables.specs.Plans.{controls_some, ArePlannable}
 abbrev pub AreSafe : RawBoard → List (List Ctl) → Type 0
 AreSafe board passes = (x : ℕ) (pass : List Ctl) → slice_get passes x ≡ Some pass → IsSafe board (holds pass)
 
--- each control of each pass is useful
+-- each control of each pass is useful: the setting with this control alone is safe and enables a tested driver
 abbrev pub AreUseful : RawBoard → List (List Ctl) → Type 0
 AreUseful board passes =
     (x : ℕ) (pass : List Ctl) (c : Ctl) → slice_get passes x ≡ Some pass → holds pass c ≡ true

@@ -32,8 +32,8 @@ pub record KeepRoom (old new : StackedRows) : Type 0 where
   pub expected : new.expected.room ≡ old.expected.room
   pub mask : new.mask.room ≡ old.mask.room
 
--- row `j` of the bits that all passes shift in: the quiet row, in which the cell of each steady driver has bit `j` of the code of the
--- driver's net
+-- Row `j` of the bits that all passes shift in. It is the quiet row, in which no control is enabled, except that the cell of each steady
+-- driver has bit `j` of the code of the driver's net. A steady driver observes its net in every pass.
 abbrev pub steady_shifted : PlanTables → ℕ → List Bool
 steady_shifted plan j = assigned (λ d. d.position) (code_bit_of_driver plan.codes j) plan.quiet.bits plan.steady
 
@@ -61,7 +61,8 @@ pub record AreCommonRows (plan : PlanTables) (rows : CommonRows) : Type 0 where
   pub expected : (j : ℕ) (row : BitRow) → slice_get rows.expected j ≡ Some row
       → row.bits ≡ steady_compared plan (code_bit_of_driver plan.codes j)
 
--- The rows are the rows of pass `x`. Row `j` has the bits that scan `j` shifts in, and the expected bits and the mask of scan `j + 1`.
+-- The rows are the rows of pass `x` of the plan. Each row `j` of the pass has the bits that scan `j` shifts in, and the expected bits and
+-- the mask of scan `j + 1`.
 pub record ArePassRows (board : RawBoard) (plan : PlanTables) (x : ℕ) (rows : StackedRows) : Type 0 where
   pub within : x < length plan.passes
   pub shifted : (j : ℕ) → j < plan.width → stacked rows.shifted j ≡ tdi_bits (joined (row_bits board (scan_of_pass board plan x j)))

@@ -13,7 +13,8 @@ use Rattle.plan_tables.specs.declared.tables.PlanTables.{PlanTables}
 -- `ArePlannable`: a plan can be made from the passes. `IsPlanOf`: the tables are a plan of the board.
 pub use Rattle.plan_tables.specs.Plans.{ArePlannable, IsPlanOf}
 
--- The number of scans: three at the beginning, and `width + 1` for each pass. A pass has one scan for each row and one for the quiet row.
+-- The number of scans: three at the beginning, and `width + 1` for each pass. A pass has one scan for each of its `width` rows. Its last
+-- scan shifts in the quiet row, in which no control is enabled.
 abbrev pub scan_count : PlanTables → ℕ
 scan_count plan = 3 + length plan.passes * suc plan.width
 

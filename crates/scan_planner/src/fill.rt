@@ -32,7 +32,7 @@ fn fill_codes(codes: &StoredRows, rows: &mut ScanRows) -> Shape
 }
 
 impl<'a> BoardPlan<'a> {
-    /// Fills `tdi` with the quiet row. `tdi` must have room for a scan of data.
+    /// Fills `tdi` with the quiet row, in which no control is enabled. `tdi` must have room for a scan of data.
     pub fn shift_quiet(&self, tdi: &mut Row)
         requires { data_bits self.now.board ≤ tdi.old.room }
         ensures bits { (scan : RowScan) → scan.now ≡ quiet_row

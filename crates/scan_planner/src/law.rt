@@ -2,7 +2,8 @@
 ghost use Rattle.scan_planner.specs.Laws.{UsefulPlanned};
 
 /// A plan can be made from safe passes whose controls are all useful. Every useful control, and every control of a
-/// driver of a net, controls a driver of the board.
+/// driver of a net, controls a driver of the board. A control is useful if the setting with this control alone is safe
+/// and enables a tested driver.
 pub fn useful_planned()
     ensures { UsefulPlanned }
 {}

@@ -1,8 +1,8 @@
-//! Makes the scans of a board's test one at a time, from tables that `plan_tables` makes. A plan also answers queries
-//! about each net and each position.
+//! Makes the scans of a board's test one at a time, from tables that `plan_tables` makes. A plan also returns the code,
+//! the drivers and the compared cells of each net, and the bit at each position of the quiet row.
 //!
-//! A plan makes the rows that all passes share only once. A walk over the cells of a pass then sets the pass's own bits
-//! in copies of these rows. It sets them in all rows side by side, or in a single row.
+//! All passes of a plan share rows that the plan makes only once. For each pass, a walk over the pass's cells sets the
+//! bits of these cells in copies of the shared rows. It sets them in all rows side by side, or in a single row.
 #![tactic(auto)]
 
 mod board_plan;

@@ -36,8 +36,8 @@ impl<'a, 'k> Model for PassWithRows<'a, 'k> {
 }
 
 impl<'a, 'k> PassWithRows<'a, 'k> {
-    // Fills `tdi` with row `j` of the pass, or with the quiet row if the pass has no row `j`. `tdi` must have room for
-    // a scan of data.
+    // Fills `tdi` with row `j` of the pass, or with the quiet row if the pass has no row `j`. The quiet row disables
+    // every driver that has a control. `tdi` must have room for a scan of data.
     fn shift(&self, j: u32, tdi: &mut Row)
         requires { data_bits self.now.test.board ≤ tdi.old.room }
         ensures bits { tdi.new.bits ≡ tdi_bits (scan_bits_of self.now j) }

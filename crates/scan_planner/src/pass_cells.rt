@@ -115,8 +115,8 @@ impl PassControls<'_> {
     }
 
     // Writes the codes of the nets that the pass observes by its own drivers. The pass's own drivers are the drivers by
-    // which it observes nets, except the steady drivers. The steady drivers are the same in all passes, so their codes
-    // are already in the rows that all passes share.
+    // which it observes nets, except the steady drivers. The steady drivers observe their nets in every pass, so their
+    // codes are already in the rows that all passes share.
     fn drive<S: CodeRows, E: CodeRows, M: CodeRows>(
         &self,
         shifted: &mut S,

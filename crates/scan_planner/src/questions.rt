@@ -1,4 +1,4 @@
-// Answers questions about each net and each position of a plan.
+// Answers questions about each net of a plan, and about each position of its quiet row.
 ghost use Rattle.std.specs.Prelude.{◌≡◌, ◌<◌, ◌≤◌, [], false, length, slice_index_or};
 ghost use Rattle.board_defs.specs.declared.board.RawBoard.{RawBoard};
 ghost use Rattle.board_defs.specs.Settings.{holds};
@@ -71,15 +71,15 @@ impl Plan {
         self.tables.nets.enabled(pass, net)
     }
 
-    /// Returns the cells that read a net, in pin order. There are none if no net has this number. While a pass observes the net, the cells
-    /// on pins other than the driver's pin are compared.
+    /// Returns the cells that read a net, in pin order. Returns no cells if no net has this number. A pass that observes the net compares
+    /// those of its cells that are on pins other than the driver's pin.
     pub fn readers(&self, net: u32) -> &[ReaderCell]
         ensures { result.now ≡ readers_on self.now.nets net }
     {
         self.tables.nets.readers(net)
     }
 
-    /// Returns the bit at a position of the quiet row, or 0 past its end.
+    /// Returns the bit at a position of the quiet row, or false past its end. In the quiet row, no control is enabled.
     pub fn quiet(&self, position: u32) -> bool
         ensures { result ≡ slice_index_or self.now.quiet.bits position false }
     {

@@ -89,7 +89,7 @@ module _ {T E : Type 0} (items : ℕ) (Says : ℕ → ℕ → Result (List T) E 
         (each (suc i) none (omega (arith, less)))) in
         ranges.both (start k) (start (k + 1)) items (seen_list view answer) (together view answers) low high (omega arith) here behind
 
-    -- If the statement holds for each piece, and for each fault of memory, it holds for all items and the result.
+    -- If the statement holds for each piece, and for each fault of a lack of memory, it holds for all items and the result.
     pub of_pieces : (Gives : Piece → Result V E → Type 0) (IsRefusal : E → Type 0) (result : Result V E) →
         ((number : ℕ) (answer : Result V E) → number < pieces
         → Gives (piece_of items pieces number) answer

@@ -1,4 +1,5 @@
--- The pieces of a list of items, and the joined result of the answers for the pieces.
+-- The pieces of a list of items, and the joined answers for the pieces. The answer for a piece is the list or the fault that the work on
+-- the piece returns.
 use Rattle.std.specs.Prelude.{◌≡◌, ℕ, ◌+◌, ◌*◌, ◌/◌, ◌<◌, ◌⊎◌, ◌-◌, List, [], ◌∷◌, ◌++◌, length, take, drop, slice_index_or, Result, Ok, Err}
 use Rattle.side_by_side.specs.declared.pieces.Piece.{Piece}
 
@@ -48,7 +49,7 @@ pub record IsOfPieces {V T E : Type 0} (view : V → List T) (Gives : Piece → 
   pub each : (number : ℕ) (none : Result V E) → number < pieces → Gives (piece_of items pieces number) (slice_index_or answers number none)
   pub is : together view answers ≡ said
 
--- The result is the joined answers of all pieces, or a fault of memory, for which `IsRefusal` is true.
+-- The result is the joined answers of all pieces, or the fault of a lack of memory, for which `IsRefusal` is true.
 abbrev pub GivesTogether : {V T E : Type 0} → (V → List T) → (Piece → Result V E → Type 0) → (E → Type 0) → ℕ → ℕ → Result V E → Type 0
 GivesTogether view Gives IsRefusal items pieces (Ok all) = IsOfPieces view Gives items pieces (Ok (view all))
 GivesTogether view Gives IsRefusal items pieces (Err fault) = IsRefusal fault ⊎ IsOfPieces view Gives items pieces (Err fault)

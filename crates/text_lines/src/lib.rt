@@ -27,7 +27,7 @@ pub fn is_filled(word: &[u8]) -> bool
     !word.is_empty()
 }
 
-/// Returns whether the word begins no comment.
+/// Returns false if the word begins with `#`, which begins a comment, and true otherwise.
 pub fn begins_no_comment(word: &[u8]) -> bool
     ensures { result ≡ begins_no_comment word.now }
 {

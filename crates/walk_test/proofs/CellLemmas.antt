@@ -210,7 +210,7 @@ module _ (board : RawBoard) (rules : IsBoard board) (walk : List Ctl) (setting :
   abbrev row : TestRow
   row = walk_row board walk j
 
-  -- net n carries 1 in row j
+  -- net n, if it is a walk net, carries 1 in row j: j walk nets come before it
   abbrev pub is_marked : ℕ → Bool
   is_marked n = count_by (is_walked board walk) (take n board.nets) == j
 
@@ -226,7 +226,8 @@ module _ (board : RawBoard) (rules : IsBoard board) (walk : List Ctl) (setting :
   abbrev places : BoardRules board
   places = board_rules board rules
 
-  -- A driver whose own cell is its control cell is a switching driver, and the setting holds no control of a switching driver.
+  -- The setting is safe, so a driver that it enables is not one-sided. If the driver's own cell were its control cell, it would be a
+  -- switching driver, but the setting holds no control of a switching driver.
   not_own : (n : ℕ) (net : Net) (d : ℕ) (pin : NetPin) (at : PinAt) (entry : Cell)
       → slice_get board.nets n ≡ Some net → slice_get net.pins d ≡ Some pin → pin.at ≡ Some at →
       entry_at board at ≡ Some entry → (control : Control) → entry.ctl ≡ Some control

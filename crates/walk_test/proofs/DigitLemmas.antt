@@ -1,4 +1,4 @@
--- Lemmas about rows as the values of their digits: the compared bits of a row, and the marks that a loop makes.
+-- Lemmas about rows that are stored as the values of their hexadecimal digits: the compared bits of a row, and the marks that a loop makes.
 use Rattle.std.proofs.Common.{◌≡◌, ◌⊎◌, inl, inr, ℕ, ◌+◌, ◌<◌, ◌≤◌, ◌==◌, Bool, true, false, ◌&&◌, List, length, get_or, min, refl, sym, ap, ◌∙◌, subst, arith}
 use Rattle.std.specs.Int.{bit_at}
 use Rattle.std.specs.Int.Bits.{bit_and, bit_or}

@@ -190,7 +190,7 @@ place_same xs rise i j n e f = by_case (cases_lt i j) (cases_lt j i)
     by_case (inr low) (inl less) = let bad : n < n = place_order xs rise j i n n f e less in absurd (omega (arith, bad))
     by_case (inr low) (inr high) = omega (arith, low, high)
 
--- net n has label k
+-- net n is in `nets`, and `labels` has label k at the same place
 abbrev pub Labelled : List ℕ → List ℕ → ℕ → ℕ → Type 0
 Labelled nets labels k n = (i : ℕ) × (slice_get nets i ≡ Some n) × (slice_get labels i ≡ Some k)
 

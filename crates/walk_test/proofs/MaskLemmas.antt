@@ -71,7 +71,7 @@ mask_within mask at on = by_side (cases_lt at (length mask))
     by_side (inl less) = less
     by_side (inr past) = let bad : false ≡ true = sym (get_or_past mask at false past) ∙ on in cc bad
 
--- the compared positions, which the digits of the mask give
+-- `mask` has a 1 at each compared position, and `marks` has the values of its hexadecimal digits
 module _ (mask : List Bool) (marks : List ℕ) (are : marks ≡ digits_of mask) where
   mark_bit : (at : ℕ) → digit_bit_at marks at ≡ get_or mask at false
   mark_bit at = ap (λ (l : List ℕ). digit_bit_at l at) are ∙ by_side (cases_lt at (length mask))
@@ -118,7 +118,8 @@ module _ (log : List (List Bool)) (mask : List Bool) (marks : List ℕ) (are : m
       → Decides t (StartsGroup log mask j own none old)
   not_started own none old t is off = (λ e. let bad : true ≡ false = sym e ∙ off in cc bad, λ s. is ∙ one_read own ∙ s.is_read)
 
-  -- If position `own` reads 1 in row j, a group starts if and only if no compared position that reads 1 in this row has a row yet.
+  -- If position `own` is compared and reads 1 in row j, a group starts in row j if and only if no compared position that reads 1 in this
+  -- row has a row in `old`. `none` stands for no row.
   module _ (none : ℕ) (old : List ℕ) (count : length old ≡ length mask) where
     pub starts : (own : ℕ) → is_one row marks own ≡ true → (t : Bool)
         → Decides t (IsFresh row marks none old (length old))

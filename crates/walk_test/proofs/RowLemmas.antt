@@ -40,8 +40,8 @@ use Rattle.walk_test.specs.Tables.{tdi_of, mask_of, still_row, AreNetCells}
 use Rattle.walk_test.specs.inner.Tables.{tdo_of, positions_beside}
 use Rattle.walk_test.proofs.CellLemmas.{WalkedBy, compared_of, compared_device, compared_position}
 
--- Setting the bits of f in one row and of g in another makes the rows differ at place `i` only if f and g give an item with this place
--- different bits.
+-- Set the bits of `f` in row `s`, and the bits of `g` in row `t`. If the rows agreed at place `i`, they still agree there, unless some item
+-- has place `i` and different bits under `f` and `g`.
 apart_at : {X : Type 0} (place : X → ℕ) (f g : X → Bool) (xs : List X) (s t : List Bool) (i : ℕ) → length s ≡ length t →
     (get_or s i false ≡ get_or t i false) ⊎ ((x : X) × Has xs x × (place x ≡ i) × (f x ≡ g x → ⊥)) →
     (get_or (assigned place f s xs) i false ≡ get_or (assigned place g t xs) i false)

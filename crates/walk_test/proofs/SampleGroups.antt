@@ -30,7 +30,7 @@ use Rattle.walk_test.specs.GroupText.{groups_text}
 use Rattle.walk_test.specs.inner.Tables.{walk_row_of}
 use Rattle.walk_test.proofs.SampleTests.{two_passes, two_passes_nets}
 
--- every free bit is 0
+-- the choice that gives 0 for every bit that the model of the board leaves open
 abbrev all_off : Choice
 all_off =
     record {

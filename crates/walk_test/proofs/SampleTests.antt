@@ -50,11 +50,11 @@ bus_text = refl
 pulled_switches : switches_some pulled_up (record { part = 0; cell = 0 }) ≡ true
 pulled_switches = refl
 
--- so the walk setting leaves out this control
+-- the walk setting leaves out the control of the switching driver
 pulled_setting : walk_setting pulled_up ≡ Some []
 pulled_setting = refl
 
--- so the driver's net is not a walk net
+-- the net of the switching driver is not a walk net
 pulled_nets : walk_nets pulled_up ≡ []
 pulled_nets = refl
 
@@ -100,7 +100,7 @@ beside_three_state driver =
 cell_0_stays : walk_setting (beside_three_state ts0) ≡ Some (record { part = 2; cell = 0 } ∷ [])
 cell_0_stays = refl
 
--- here the three-state driver keeps its control, which is cell 1
+-- if the control of the three-state driver is cell 1, the driver keeps its control too
 cell_1_stays : walk_setting (beside_three_state ts) ≡ Some (record { part = 2; cell = 1 } ∷ [])
 cell_1_stays = refl
 
@@ -131,7 +131,7 @@ abbrev pulled_down : RawBoard
 pulled_down = board (Described os ∷ Described rcv1 ∷ Described drv ∷ Described rcv ∷ []) (
     pulled (Some false) (pin 0 0 ∷ pin 1 0 ∷ []) ∷ net (pin 2 0 ∷ pin 3 0 ∷ []) ∷ net (pin 2 1 ∷ pin 3 1 ∷ []) ∷ [])
 
--- on a net that is pulled to 0, this driver has a pass
+-- an open-source driver on a net that is pulled to 0 has a pass
 down_pass : slice_get (passes_of pulled_down) 0 ≡ Some (record { part = 0; cell = 0 } ∷ [])
 down_pass = refl
 

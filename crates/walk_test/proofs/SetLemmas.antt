@@ -479,8 +479,7 @@ module _ (safe : WalkSafe)
           ∙ sym (ap (λ (k : ℕ). k == label_of log d) (label_read i c ci))
           ∙ sym (ap (λ (k : ℕ). get_or labels i 0 == k) (label_read j d dj)))
 
-    -- The answer for a log is the groups of the labels if the log shows the labels. Otherwise the answer is that no set of groups explains
-    -- the log.
+    -- If the log shows the labels, the groups of the labels are the set that explains the log. Otherwise no set of groups explains it.
     pub found_by : All (λ row. length row ≡ data_bits board) log → (shown : Bool)
         → Decides shown (ShowsLabels log labels cells)
         → AreFound board log (cond shown (Some (groups_by nets labels)) None)

@@ -23,7 +23,7 @@ WalkKept =
     (board : RawBoard) (pass walk : List Ctl) (c : Ctl) → slice_get (passes_of board) 0 ≡ Some pass
     → walk_setting board ≡ Some walk → holds walk c ≡ (holds pass c && not (switches_some board c))
 
--- the walk text passes on the board without faults, and is quiet under every fault set
+-- The walk text passes on the board without faults. Under every fault set, no two drivers conflict and unused cells keep their safe values.
 abbrev pub WalkHarmless : Type 0
 WalkHarmless = (board : RawBoard) → IsBoard board → IsHarmless board (board_walk_text board)
 

@@ -28,8 +28,8 @@ mask_of board row = mask_bits (joined (row_bits board (record { now = quiet_row;
 abbrev pub still_row : List Ctl → TestRow
 still_row walk = record { setting = holds walk; carried = λ n. Some false }
 
--- `cells` has the positions of the cells of walk net n: the cell of the driver by which the setting observes the net, and the compared
--- cells. There is at least one compared cell.
+-- `cells` has the positions of the cells of walk net n: the cell of the driver by which the setting observes the net, and the cells that
+-- read the net on other pins, which the test compares. There is at least one such reading cell.
 pub record AreNetCells (board : RawBoard) (walk : List Ctl) (n : ℕ) (cells : NetCells) : Type 0 where
   pub net : Net
   pub is_net : slice_get board.nets n ≡ Some net
@@ -43,21 +43,23 @@ pub record AreNetCells (board : RawBoard) (walk : List Ctl) (n : ℕ) (cells : N
       × (r.position ≡ position))
   pub some : 0 < length cells.compared
 
--- `t` has the tables of a walk with this setting
+-- `t` has the cells of each net in `t.nets`, and the shared rows of a walk with this setting
 pub record AreWalkTables (board : RawBoard) (walk : List Ctl) (t : WalkTables) : Type 0 where
   pub count : length t.cells ≡ length t.nets
   pub cells : (i n : ℕ) (cells : NetCells) → slice_get t.nets i ≡ Some n → slice_get t.cells i ≡ Some cells → AreNetCells board walk n cells
   pub still : t.rows.still.bits ≡ tdi_of board (still_row walk)
   pub mask : t.rows.mask.bits ≡ mask_of board (still_row walk)
 
--- `t` has the tables of the board's walk
+-- `t` has the tables of the board's walk: a plan whose only pass is the walk setting, if there is one, the walk nets, their cells, and the
+-- shared rows
 pub record IsWalkOf (board : RawBoard) (t : WalkTables) : Type 0 where
   pub plan : IsPlanOf board t.plan
   pub passes : t.plan.passes ≡ option_to_list (walk_setting board)
   pub nets : t.nets ≡ walk_nets board
   pub tables : (walk : List Ctl) → walk_setting board ≡ Some walk → AreWalkTables board walk t
 
--- The number of data scans after the EXTEST codes. If there is a pass, there is one scan for each walk net and one for the quiet row.
+-- The number of data scans after the EXTEST codes. If there is a pass, there is one scan for each walk net and one for the quiet row, which
+-- disables every driver that has a control.
 abbrev pub rows_count : List (List Ctl) → List ℕ → ℕ
 rows_count [] nets = 0
 rows_count (pass ∷ passes) nets = suc (length nets)

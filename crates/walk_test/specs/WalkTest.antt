@@ -28,7 +28,7 @@ without_switching board pass = filter (λ c. not (switches_some board c)) pass
 abbrev pub walk_setting : RawBoard → Option (List Ctl)
 walk_setting board = option_map (without_switching board) (slice_get (passes_of board) 0)
 
--- there are a walk setting and such a net, and the setting observes the net
+-- there is a walk setting, there is a net, and the setting observes the net
 abbrev pub is_walk_net : RawBoard → Option (List Ctl) → Option Net → Bool
 is_walk_net board None net = false
 is_walk_net board (Some walk) None = false
@@ -46,7 +46,8 @@ scans_by board (Some walk) = walk_row_scans board walk
 abbrev pub walk_row_list : RawBoard → List RowScan
 walk_row_list board = scans_by board (walk_setting board)
 
--- the scans of the walking test: the preload codes, the quiet row, the EXTEST codes, and then the data scans
+-- the scans of the walking test: the preload codes, the quiet row (which disables every driver that has a control), the EXTEST codes, and
+-- then the data scans
 abbrev pub walk_scans : RawBoard → List Scan
 walk_scans board = board_scans board (walk_row_list board)
 

@@ -70,8 +70,8 @@ impl<'a> RowFiller<'a> {
         RowFiller { board, tables }
     }
 
-    // Fills `tdi` with row `j`, in which walk net `j` carries 1. After the last walk net, the row is the quiet row.
-    // `tdi` must have room for a scan of data.
+    // Fills `tdi` with row `j`, in which walk net `j` carries 1. After the last walk net, the row is the quiet row,
+    // which disables every driver that has a control. `tdi` must have room for a scan of data.
     fn shift(&self, j: usize, tdi: &mut Row)
         requires { data_bits self.now.board ≤ tdi.old.room }
         ensures bits { tdi.new.bits ≡ shifted_in self.now j }

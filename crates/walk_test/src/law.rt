@@ -22,7 +22,8 @@ pub fn walk_kept()
     ensures { WalkKept }
 {}
 
-/// The text of the walking test passes on the board without faults, and is quiet under every fault set.
+/// The text of the walking test passes on the board without faults. Under every fault set, no two drivers conflict and
+/// unused cells keep their safe values.
 pub fn walk_harmless()
     ensures { WalkHarmless }
 {
@@ -57,7 +58,7 @@ pub fn one_set()
     scans_in_turn();
 }
 
-/// Each log of a board's walking test has exactly one answer: the set of groups that explains the log, or the answer that no set does.
+/// For each board and each log, either exactly one set of groups explains the log, or no set does.
 pub fn logs_have_one_set()
     ensures some { (board : RawBoard) (log : List (List Bool)) → IsBoard board
         → (found : Option (List (List ℕ))) × AreFound board log found }

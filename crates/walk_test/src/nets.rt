@@ -99,7 +99,7 @@ fn all_cells(
     Ok(all)
 }
 
-// Sets the driver cell of each of these nets to 0.
+// Writes a 0 in the row at the driver cell of each of these nets.
 fn clear_drivers(cells: &[NetCells], row: &mut Row)
     ensures { row.new.bits ≡ cleared row.old.bits cells.now }
 {

@@ -34,8 +34,8 @@ fn mark_row(firsts: &mut [u32], row: &MaskedRow<'_>, j: u32, none: u32) -> bool
 }
 
 // Returns whether a group starts in row `j` of the log: position `at` is compared and reads 1, and no compared position
-// that reads 1 had a row before. If so, all compared positions that read 1 now have row `j`. `firsts` must have an item
-// for each position.
+// that reads 1 in row `j` has a row in `firsts` yet. If so, notes row `j` in `firsts` for all these positions. `j` must
+// be a row of the log. `firsts` must have an item for each position, which is `none` for a position without a row.
 fn start_group(log: &WalkLog<'_>, firsts: &mut [u32], at: u32, j: u32, none: u32) -> bool
     requires row { j < length log.now.log }
     requires firsts { length firsts.old ≡ length log.now.mask }
@@ -78,9 +78,10 @@ fn read_row(log: &WalkLog<'_>, firsts: &mut [u32], at: u32, j: u32, none: u32) -
     }
 }
 
-/// Reads the rows of all nets, in order. Returns whether each row reads what the earlier rows imply. If so, `firsts`
-/// then has, for each compared position, the first row in which it reads 1. Before the call, `firsts` must have an item
-/// for each position, and each item must be the number of rows.
+/// Reads the rows of all nets, in net order. Returns whether each row reads what the earlier rows imply. If so,
+/// `firsts` then has, for each compared position, the first row in which it reads 1, or the number of rows if there is
+/// no such row. Before the call, `firsts` must have an item for each position, and each item must be the number of
+/// rows.
 pub fn read_rows(log: &WalkLog<'_>, firsts: &mut [u32]) -> bool
     requires firsts { length firsts.old ≡ length log.now.mask }
     requires blank { (at : ℕ)

@@ -26,8 +26,8 @@ fn own_switch(part: u32, num: u32, pull: Option<bool>, control: Control) -> Opti
     }
 }
 
-// Returns the control of a pin with this driving entry, if the pin is a switching driver. The pin is on a net with this
-// pull that is not guarded.
+// Returns the control of a pin with this driving entry, if the pin is a switching driver. The pin must be on an
+// unguarded net with this pull.
 fn entry_switch(part: u32, pull: Option<bool>, entry: Cell) -> Option<Ctl>
     ensures { result ≡ entry_switch part pull (Some entry) }
 {
@@ -37,8 +37,8 @@ fn entry_switch(part: u32, pull: Option<bool>, entry: Cell) -> Option<Ctl>
     }
 }
 
-// Returns the control of this pin, if the pin is a switching driver. The pin is on a net with this pull that is not
-// guarded.
+// Returns the control of this pin, if the pin is a switching driver. The pin must be on an unguarded net with this
+// pull.
 fn pin_switch(board: &BoardPins<'_>, pull: Option<bool>, pin: &NetPin) -> Option<Ctl>
     ensures { result ≡ pin_switch board.now pull pin.now.at }
 {
@@ -60,7 +60,7 @@ fn add_some(setting: &mut Setting, control: Option<Ctl>) -> Result<(), AllocErro
     }
 }
 
-// Adds the controls of the switching drivers among these pins of a net. The net has this pull and is not guarded.
+// Adds the controls of the switching drivers among these pins of a net. The net must be unguarded and have this pull.
 fn add_pins(
     board: &BoardPins<'_>,
     pull: Option<bool>,
@@ -115,7 +115,7 @@ fn push_unless(controls: &mut Vec<Ctl>, c: Ctl, is_left_out: bool) -> Result<(),
     Ok(())
 }
 
-// Returns the controls that the set does not hold.
+// Returns those of `controls` that `set` does not hold, in the same order.
 fn others(alloc: Global, controls: &[Ctl], set: &Setting) -> Result<Vec<Ctl>, AllocError>
     ensures { IfOk result (λ left. left.items ≡ filter (λ c. not (holds set.now c)) controls.now) }
 {

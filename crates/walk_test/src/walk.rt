@@ -87,7 +87,8 @@ impl Walk {
         self.tables.nets.as_slice()
     }
 
-    /// Returns the number of scans. There are three, and if the board has a pass, one more for each walk net and one for the quiet row.
+    /// Returns the number of scans. There are three. If the board has a pass, there is one more for each walk net and one for the quiet
+    /// row, which disables every driver that has a control.
     pub fn scans(&self) -> u64
         ensures { result ≡ count_walk_scans self.now }
     {

@@ -31,7 +31,7 @@ blocks_at (Some title) =
     let behind = rows_from (title.line + 1) title.behind.now in
     record { id = title.id.now; lines = up_to_title behind } ∷ blocks_of behind
 
--- the log of block `board`, or the fault of this block, given the answer for the block's lines
+-- the log of block `board`, or the fault of this block, given the log or the fault that the block's lines give
 abbrev pub in_block : ℕ → LogAnswer → Result (List (List Bool)) BatchFault
 in_block board (Ok log) = Ok log
 in_block board (Err fault) = Err (Inner board fault)

@@ -22,7 +22,7 @@ AreShortBlocks blocks = (length blocks < 2 ^ 32) × All (λ block. block.line + 
 abbrev pub said_between : Reading → ℕ → ℕ → BatchAnswer
 said_between r from to = logs_from r.rows r.len (from + 1) (map lines_of_unread (items_between r.unread.items from to))
 
--- the answer for all blocks
+-- the answer for all blocks: their logs, or the fault of the first block whose lines are not a log
 abbrev pub said_of : Reading → BatchAnswer
 said_of r = logs_from r.rows r.len 1 (map lines_of_unread r.unread.items)
 

@@ -1,7 +1,7 @@
 use Rattle.std.proofs.Common.{◌≡◌, ℕ, ◌+◌, ◌-◌, ◌^◌, ◌<◌}
 use Rattle.counting_codes.proofs.width.Given as goal
 
--- `words` is 2 to the power of `width`, and no smaller width is enough
+-- `words` is 2 to the power of `width`, and 2 to the power of any smaller width is less than `n + 2`
 abbrev pub invariant-loop-words : goal.invariant-loop-words
 invariant-loop-words l = record {
   words : l.words ≡ 2 ^ l.width;

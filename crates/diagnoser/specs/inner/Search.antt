@@ -28,7 +28,7 @@ pub record IsSearch (logged : LoggedBoard) (telling : Option NetInPass) (univers
 abbrev pub faults_between : SearchedLog → ℕ → ℕ → List Single
 faults_between s from to = filter_map (fault_at s.logged.test.board) (items_between s.suspects from to)
 
--- `faults` are those of the faults at the suspects `from..to` that explain the log, in order
+-- `faults` are those of the faults at the suspects `from..to` that explain the log, in the order of the suspects
 abbrev pub AreFoundBetween : SearchedLog → ℕ → ℕ → List Single → Type 0
 AreFoundBetween s from to faults =
     Picks (λ single. Explains s.logged.test.board single s.logged.log)

@@ -36,7 +36,8 @@ abbrev pub setting_of : RawBoard → List ℕ → List Ctl
 setting_of board held = passing_controls (is_in held) 0 (useful_controls board)
 
 -- `held` has room for each useful control. `free` has the places of the useful controls that can be added: the place is not in `held`, and
--- the control is together with every control whose place is in `held`.
+-- the control is together with every control whose place is in `held`. Two controls are together if the setting with just these two is
+-- safe.
 pub record IsDraft (board : RawBoard) (held free : List ℕ) : Type 0 where
   pub held_length : length held ≡ length (useful_controls board) / 64 + 1
   pub free_are : (place : ℕ) (c : Ctl) → slice_get (useful_controls board) place ≡ Some c

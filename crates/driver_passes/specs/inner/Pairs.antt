@@ -1,4 +1,5 @@
--- The pairs of nets for which a pass is needed.
+-- The pairs of nets for which a pass is needed. Two nets are paired if one safe setting enables a tested driver of each. A pass shows a net
+-- if it enables a tested driver of the net.
 use Rattle.std.specs.Prelude.{◌≡◌, ◌≤◌, ◌<◌, ◌⊎◌, ◌+◌, ◌/◌, ℕ, Bool, true, not, ◌&&◌, List, drop, length, map, None}
 use Rattle.board_defs.specs.declared.board.Ctl.{Ctl}
 use Rattle.board_defs.specs.declared.board.RawBoard.{RawBoard}
@@ -12,8 +13,8 @@ use Rattle.driver_passes.specs.inner.Progress.{EnableTested}
 use Rattle.driver_passes.specs.Useful.{HoldUseful}
 use Rattle.driver_passes.specs.inner.Shown.{AreShownRows, AreShownByAll, IsColumn}
 
--- The state of a `Pairing`. The passes so far enable each tested driver and hold only useful controls. The rows belong to these passes, and
--- the column belongs to the rows. `always` has the nets that all passes show, and `left` has room for each net.
+-- The state of a `Pairing`. The passes so far enable each tested driver and hold only useful controls. Each row has the nets that its pass
+-- shows, and the column has one word of each row. `always` has the nets that all passes show, and `left` has room for each net.
 pub record ArePairing (board : RawBoard) (pairing : Pairing) : Type 0 where
   pub rows : AreShownRows board pairing.passes.items pairing.rows.items
   pub column : IsColumn pairing.rows.items pairing.column

@@ -30,8 +30,8 @@ AreSharers board sharers =
 abbrev pub is_listed : List (List Block) → List ℕ → ℕ → Bool
 is_listed sharers nets place = list_any (λ n. has_place (slice_index_or sharers n []) place) nets
 
--- The set loses the places of those useful controls that are not together with `c`, and no other place. The definition does not say whether
--- the place of `c` itself stays.
+-- The set loses the places of those useful controls that are not together with `c`, and no other place. Two controls are together if the
+-- setting with just these two is safe. The definition does not say whether the place of `c` itself stays.
 abbrev pub LosesApart : RawBoard → Ctl → List ℕ → List ℕ → Type 0
 LosesApart board c before after =
     (q : ℕ) (e : Ctl) → slice_get (useful_controls board) q ≡ Some e → same_ctl e c ≡ false

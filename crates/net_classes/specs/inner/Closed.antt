@@ -73,7 +73,8 @@ pub record IsSomeSet (board : RawBoard) (set : ControlSet) : Type 0 where
   pub passes : Ctl → Bool
   pub is_set : IsSet board passes set
 
--- `closed.nets` are the nets that `closed.by` closes, and `closed.set` has the controls with a driver on a net in `closed.by`
+-- `closed.nets` are the nets that `closed.by` closes, and `closed.set` has the controls with a driver on a net in `closed.by`.
+-- `closed.others` may be any set of controls.
 pub record AreClosedNets (board : RawBoard) (closed : ClosedNets) : Type 0 where
   pub set_is : IsSet board (drives_some board closed.by) closed.set
   pub nets_are : AreClosed board closed.by closed.nets

@@ -39,7 +39,8 @@ abbrev pub number_for : ℕ → Option (List ℕ) → ℕ
 number_for count None = 0
 number_for count (Some row) = count
 
--- `after` has the row of control `c`, and each other control that has its row in `before` has its row in `after`
+-- `after` has the row of the covered nets and the row of control `c`. Each other control that has its row in `before` has its row in
+-- `after`.
 pub record AddsRow (board : RawBoard) (before after : PairRows) (c : Ctl) : Type 0 where
   pub covered : HasCovered board after
   pub own : IsRowOf board after c

@@ -22,11 +22,11 @@ driver_cell net d = record { net = net; place = d.place; position = d.position }
 abbrev pub IsControlThere : RawBoard → Option Ctl → Type 0
 IsControlThere board ctl = (c : Ctl) → ctl ≡ Some c → c.cell < cell_count (device_at board c.part)
 
--- the driver as an observer of its net
+-- the driver of net number `net` as an observer: the position of its control, if it has one, and its cell
 abbrev pub observer : RawBoard → ℕ → NetDriver → Observer
 observer board net d = record { control = option_map (control_position board) d.ctl; cell = driver_cell net d }
 
--- the observers of a net with these drivers and compared cells
+-- the observers of a net with these drivers and compared cells: the drivers for which a cell reads another pin of the net
 abbrev pub observers_of : RawBoard → ℕ → List NetDriver → List ReaderCell → List Observer
 observers_of board net drivers readers = map (observer board net) (filter (is_read_beside readers) drivers)
 

@@ -50,7 +50,8 @@ marked_on board table flags pass =
 abbrev pub seen_in : RawBoard → ℕ → List DriverCell → DriverTable → List (List Ctl) → List Bool
 seen_in board nets steady table passes = fold (marked_on board table) (with_nets_marked (replicate nets false) steady) passes
 
--- the nets with a flag have the codes 1, 2 and so on in net order, and the other nets have the code 0
+-- The nets with a flag have the codes 1, 2 and so on in net order, and the other nets have the code 0. `codes.count` is the number of nets
+-- with a flag.
 pub record AreCodes (seen : List Bool) (codes : NetCodes) : Type 0 where
   pub count_is : codes.count ≡ count_by (λ b. b) seen
   pub length_is : length codes.codes ≡ length seen

@@ -1,4 +1,4 @@
--- The bits of the quiet row, computed from the entries of a device in turn.
+-- The bits of the quiet row, which disables every driver that has a control. They are computed from the entries of a device in turn.
 use Rattle.std.specs.Prelude.{ℕ, Bool, false, ◌&&◌, cond, List, fold, Option, Some, None, option_map, unwrap_or, replicate, slice_set}
 use Rattle.board_defs.specs.declared.device.Role.{Role}
 use Rattle.board_defs.specs.declared.device.Cell.{Cell}

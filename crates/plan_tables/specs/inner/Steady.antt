@@ -10,11 +10,12 @@ use Rattle.plan_tables.specs.declared.uses.Uses.{Uses}
 use Rattle.plan_tables.specs.Assigned.{assigned}
 use Rattle.plan_tables.specs.Tables.{PassCells, held_cell, ArePassCells}
 
--- sets the flags of these cells
+-- sets the flags at the positions of these cells
 abbrev pub marked_held : List Bool → List HeldCell → List Bool
 marked_held flags held = assigned (λ h. h.position) (λ h. true) flags held
 
--- The runs after pass `k`, which has a control whose cell is at the position. The run of this position grows by one if every earlier pass
+-- The run of a position is the number of passes, from the first on, that each have a control with its cell there. These are the runs after
+-- pass `k`, which has such a control for this position. The run of the position grows by one if it is `k`, that is, if every earlier pass
 -- has such a control.
 abbrev pub run_at : ℕ → List ℕ → ℕ → List ℕ
 run_at k runs position = cond (slice_index_or runs position 0 == k) (slice_set runs position (suc k)) runs
@@ -38,17 +39,19 @@ all_marked board quiet flags passes = fold (λ done pass. marked_held done (map 
 abbrev pub AreRuns : List (List HeldCell) → List ℕ → Type 0
 AreRuns passes runs = (position x : ℕ) → x < slice_index_or runs position 0 → HoldsAt (slice_index_or passes x []) position
 
--- the cells of all controls of the passes have flags, and each pass in the run of a position has a control with its cell there
+-- the flag of a position is set if some pass has a control with its cell there, and each pass in the run of a position has such a control
 pub record AreUses (board : RawBoard) (quiet : List Bool) (passes : List (List Ctl)) (uses : Uses) : Type 0 where
   pub flags : uses.held ≡ all_marked board quiet (replicate (length quiet) false) passes
   pub runs : AreRuns (held_by board quiet passes) uses.runs
 
--- there is no control, or the run of this position has `passes` passes, so each of these passes has a control with its cell there
+-- There is no control, or the run of this position is `passes`. If there are `passes` passes, each of them then has a control with its cell
+-- there.
 abbrev pub is_common : Uses → ℕ → Option ℕ → Bool
 is_common uses passes None = true
 is_common uses passes (Some control) = slice_index_or uses.runs control 0 == passes
 
--- the observer is steady: there is a pass, each pass enables the observer, and no pass has a control with the observer's cell
+-- The observer is steady: `passes` is not 0, no pass has a control with the observer's cell, and the observer has no control or the run of
+-- its control is `passes`. If `passes` is the number of passes, every pass then enables the observer.
 abbrev pub is_steady : Uses → ℕ → Observer → Bool
 is_steady uses passes x = nat_lt 0 passes && (not (slice_index_or uses.held x.cell.position false) && is_common uses passes x.control)
 
@@ -59,8 +62,8 @@ steady_cells uses passes observers = map (λ x. x.cell) (filter (is_steady uses 
 abbrev pub moving : Uses → ℕ → List Observer → List Observer
 moving uses passes observers = filter (λ x. not (is_steady uses passes x)) observers
 
--- `cells` gives the cells of each pass. Each steady cell belongs to a net of the board and has a position in data scans. If there are no
--- passes, no cell is steady.
+-- For each pass, `cells` returns the cells of its controls and its driver cells that are not steady. Each steady cell belongs to a net of
+-- the board and has a position in data scans. If there are no passes, no cell is steady.
 pub record ArePassTables (board : RawBoard) (passes : List (List Ctl)) (steady : List DriverCell)
     (cells : List Ctl → PassCells) : Type 0 where
   pub each : (x : ℕ) (pass : List Ctl) → slice_get passes x ≡ Some pass → ArePassCells board steady pass (cells pass)

@@ -24,7 +24,7 @@ part_rows (Some device) = entries_noted (replicate (length device.bits) []) devi
 abbrev pub entry_rows : List Part → List (List (List Cell))
 entry_rows chain = map (λ part. part_rows (described part.kind)) chain
 
--- a port bit with these entries is dark
+-- A port bit with these entries is dark. A missing port bit is dark too.
 abbrev pub dark_by : Option PortBit → List Cell → Bool
 dark_by None entries = true
 dark_by (Some bit) entries =
@@ -44,7 +44,7 @@ dark_in rows board pin = dark_where rows board pin.at pin.inert
 abbrev pub guards_in : List (List (List Cell)) → RawBoard → NetPin → Bool
 guards_in rows board pin = is_test_pin board pin || dark_in rows board pin
 
--- a port bit with these entries is a receiver
+-- A port bit with these entries is a receiver. A missing port bit is not.
 abbrev pub receives_with : Option PortBit → List Cell → Bool
 receives_with None entries = false
 receives_with (Some bit) entries = may_receive bit.mode && list_any (λ cell. is_receiving cell.role) entries

@@ -13,7 +13,7 @@ abbrev pub is_one_group : Option ℕ → Option ℕ → Bool
 is_one_group None other = false
 is_one_group (Some k) other = is_in_short other k
 
--- the nets are the same net, or in the same group
+-- `a` and `b` are equal, or they are nets of one group
 abbrev pub are_joined : List (List ℕ) → ℕ → ℕ → Bool
 are_joined groups a b = (a == b) || is_one_group (group_of groups a) (group_of groups b)
 
@@ -22,20 +22,20 @@ abbrev pub first_one : List (List Bool) → ℕ → ℕ
 first_one [] at = 0
 first_one (row ∷ log) at = if slice_index_or row at false then 0 else suc (first_one log at)
 
--- The label of a walk net: the first row in which the net's first compared cell reads 1. The number of this row is the place of the walk
--- net that carries 1 in it.
+-- The label of a walk net: the first row in which the net's first compared cell reads 1, or the number of rows if there is no such row. Row
+-- j is the row in which the walk net at place j carries 1, so a label below the number of rows is the place of a walk net.
 abbrev pub label_of : List (List Bool) → NetCells → ℕ
 label_of log cells = first_one log (slice_index_or cells.compared 0 0)
 
--- the first compared position of a net
+-- the first compared position of a net, or 0 if there is none
 abbrev pub first_at : NetCells → ℕ
 first_at cells = slice_index_or cells.compared 0 0
 
--- the first row of a net; `firsts` has the first row of each position, and `none` stands for no row
+-- the item of `firsts` at the net's first compared position: the first row in which this position reads 1, or `none` for no row
 abbrev pub first_in : ℕ → List ℕ → NetCells → ℕ
 first_in none firsts cells = slice_index_or firsts (first_at cells) none
 
--- all compared positions of a net have the same first row
+-- all compared positions of a net have the same row in `firsts`
 abbrev pub is_even : ℕ → List ℕ → NetCells → Bool
 is_even none firsts cells = list_all (λ at. slice_index_or firsts at none == first_in none firsts cells) cells.compared
 
@@ -67,7 +67,8 @@ pub record LoggedNets : Type 0 where
 abbrev pub logged_nets : List (List Bool) → List NetCells → List Bool → LoggedNets
 logged_nets log nets mask = record { log = log; nets = nets; mask = mask }
 
--- the log has one row for each net, each row is as long as the mask, and the mask has a 1 at each compared position of the nets
+-- The log has one row for each net and fewer than 2^32 rows. Each row is as long as the mask. The mask has a 1 exactly at the compared
+-- positions of the nets, and each net has such a position.
 pub record AreLoggedNets (it : LoggedNets) : Type 0 where
   pub few : length it.log < 2 ^ 32
   pub rows : length it.log ≡ length it.nets
@@ -84,7 +85,7 @@ pub record StartsGroup (log : List (List Bool)) (mask : List Bool) (j own none :
   pub is_read : (slice_index_or mask own false && bit_in log j own) ≡ true
   pub fresh : (at : ℕ) → slice_index_or mask at false ≡ true → bit_in log j at ≡ true → slice_index_or firsts at none ≡ none
 
--- if a compared position reads 1 in row j, its item in `new` is j; the items of the other compared positions are unchanged
+-- if a compared position reads 1 in row j, its item in `new` is j; each other compared position has the same item in `new` as in `old`
 pub record AreStarted (log : List (List Bool)) (mask : List Bool) (j none : ℕ) (old new : List ℕ) : Type 0 where
   pub marked : (at : ℕ) → slice_index_or mask at false ≡ true → bit_in log j at ≡ true → slice_index_or new at none ≡ j
   pub kept : (at : ℕ) → slice_index_or mask at false ≡ true → bit_in log j at ≡ false
@@ -94,13 +95,14 @@ pub record AreStarted (log : List (List Bool)) (mask : List Bool) (j none : ℕ)
 abbrev pub below : ℕ → ℕ → ℕ → ℕ
 below j none row = if nat_lt row j then row else none
 
--- A compared position reads 1 in row k if and only if it has the same first row as position `own` of net k. This first row is row k or an
--- earlier row.
+-- The first row of a position is the first row in which it reads 1. The first row of position `own` is row k or an earlier row. A compared
+-- position reads 1 in row k if and only if it has the same first row as position `own`.
 pub record IsRowRight (log : List (List Bool)) (mask : List Bool) (k own : ℕ) : Type 0 where
   pub low : first_one log own ≤ k
   pub reads : (at : ℕ) → slice_index_or mask at false ≡ true → bit_in log k at ≡ (first_one log at == first_one log own)
 
--- the first j rows are right, and `firsts` has for each compared position the first of these rows in which the position reads 1
+-- Each of the first j rows satisfies `IsRowRight` for the first compared position of its net. For each compared position, `firsts` has the
+-- first of these rows in which the position reads 1, or `none` if there is no such row.
 pub record AreRead (log : List (List Bool)) (mask : List Bool) (nets : List NetCells) (none j : ℕ) (firsts : List ℕ) : Type 0 where
   pub right : (k : ℕ) (net : NetCells) → k < j → slice_get nets k ≡ Some net → IsRowRight log mask k (first_at net)
   pub found : (at : ℕ) → slice_index_or mask at false ≡ true → slice_index_or firsts at none ≡ below j none (first_one log at)
@@ -119,7 +121,7 @@ ShowsLabelsIn log labels cells j = (i : ℕ) (net : NetCells) → slice_get cell
 abbrev pub ShowsLabels : List (List Bool) → List ℕ → List NetCells → Type 0
 ShowsLabels log labels cells = (j : ℕ) → j < length cells → ShowsLabelsIn log labels cells j
 
--- the nets with label k, in order
+-- the nets with label k, in the order of `nets`
 abbrev pub members : List ℕ → List ℕ → ℕ → List ℕ
 members [] labels k = []
 members (n ∷ nets) [] k = []
@@ -133,6 +135,6 @@ where_several nets = if nat_le 2 (length nets) then nets ∷ [] else []
 abbrev pub group_at : List ℕ → List ℕ → ℕ → List (List ℕ)
 group_at nets labels k = if nat_le 2 (length (members nets labels k)) then members nets labels k ∷ [] else []
 
--- the groups of all labels
+-- the groups of nets with equal labels, in the order of their labels; labels that are not places of nets are ignored
 abbrev pub groups_by : List ℕ → List ℕ → List (List ℕ)
 groups_by nets labels = flat_map (group_at nets labels) (range_with_len 0 (length labels))

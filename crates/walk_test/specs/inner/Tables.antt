@@ -35,7 +35,7 @@ cleared bits cells = assigned (λ c. c.driver) (λ c. false) bits cells
 abbrev pub positions_beside : ℕ → List ReaderCell → List ℕ
 positions_beside place readers = map (λ r. r.position) (filter (λ r. not (r.place == place)) readers)
 
--- the cells of net n, if the setting observes the net by driver d; no cells if the setting does not observe the net
+-- the cells of net n, if the setting observes the net by driver d; driver position 0 and no compared cells if there is no such driver
 abbrev pub cells_by : NetPins → ℕ → Option NetDriver → NetCells
 cells_by pins n None = record { driver = 0; compared = [] }
 cells_by pins n (Some d) = record { driver = d.position; compared = positions_beside d.place (readers_on pins.nets n) }

@@ -1,4 +1,4 @@
--- The answers to the proof goals of the loop that looks for the first title of a text, line by line.
+-- Proofs for the loop that looks for the first title of a text, line by line.
 use Rattle.std.proofs.Common.{◌+◌, ◌≤◌, length, ap, sym, subst, arith}
 use Rattle.std.specs.Prelude.{option_copied}
 use Rattle.text_lines.proofs.LineLemmas.{at_some}

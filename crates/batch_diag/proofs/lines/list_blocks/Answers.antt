@@ -1,4 +1,4 @@
--- The answers to the proof goals of the loop that cuts the blocks out of a text one by one.
+-- Proofs for the loop that cuts the blocks out of a text one by one.
 use Rattle.std.proofs.Common.{◌≡◌, ◌+◌, ◌<◌, ◌≤◌, ◌++◌, ◌∷◌, ◌^◌, [], length, refl, arith}
 use Rattle.std.proofs.lemmas.List.{length_push}
 use Rattle.std.proofs.lemmas.List.Elements.{All-push}

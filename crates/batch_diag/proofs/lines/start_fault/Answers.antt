@@ -1,4 +1,4 @@
--- The answers to the proof goals of the loop that looks for the first line with words, line by line.
+-- Proofs for the loop that looks for the first line with words, line by line.
 use Rattle.std.proofs.Common.{◌+◌, ◌≤◌, length, ap, ◌∙◌, sym, arith}
 use Rattle.std.specs.Prelude.{option_copied}
 use Rattle.text_lines.specs.Words.{words_of}

@@ -1,4 +1,4 @@
--- The answers to the proof goals of the loop that reads the blocks of a range one by one.
+-- Proofs for the loop that reads the blocks of a range one by one.
 use Rattle.std.proofs.Common.{◌≡◌, ◌+◌, ◌≤◌, ◌++◌, ◌∷◌, [], List, refl, sym, subst, arith}
 use Rattle.std.specs.Prelude.{All}
 use Rattle.std.proofs.lemmas.List.Elements.{All-nil, All-push}

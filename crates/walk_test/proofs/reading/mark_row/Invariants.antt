@@ -2,7 +2,7 @@ use Rattle.std.proofs.Common.{◌≡◌, ℕ, ◌≤◌, ◌-◌, length, get_or
 use Rattle.walk_test.specs.inner.Digits.{IsFresh, IsMarked}
 use Rattle.walk_test.proofs.reading.mark_row.Given as goal
 
--- each compared position before `at` that reads 1 is marked with row `j`, and the other positions before `at` are unchanged
+-- each compared position before `at` that reads 1 had no row and now has row `j`; all other positions are unchanged
 abbrev pub invariant-loop-at : goal.invariant-loop-at
 invariant-loop-at l = record {
   long : length l.firsts ≡ length l.fn.firsts;

@@ -3,7 +3,7 @@ use Rattle.board_defs.specs.Passes.{useful_controls}
 use Rattle.driver_passes.specs.inner.Walks.{first_walked}
 use Rattle.driver_passes.proofs.draft.Draft.first_walk.Given as goal
 
--- going over the controls that are left gives the same draft as going over all controls from the start
+-- the walk from `place` on turns the current draft into the draft that the whole walk makes from the initial draft
 abbrev pub invariant-loop-place : goal.invariant-loop-place
 invariant-loop-place l =
     (l.self.board ≡ l.initial.self.board)

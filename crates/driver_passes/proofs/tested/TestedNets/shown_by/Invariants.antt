@@ -7,7 +7,7 @@ use Rattle.net_classes.specs.Pairs.{drivers_at}
 use Rattle.driver_passes.specs.inner.Tested.{drives}
 use Rattle.driver_passes.proofs.tested.TestedNets.shown_by.Given as goal
 
--- the row has the nets with a tested driver that is always on or has a control before this place
+-- the row has the nets with a tested driver that is always on, or whose control is a control of the pass at a place below `place`
 abbrev pub invariant-loop-place : goal.invariant-loop-place
 invariant-loop-place l = record {
   room : length l.row ≡ length l.board.nets / 64 + 1;
