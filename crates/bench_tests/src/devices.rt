@@ -12,7 +12,7 @@ use device_bench::{
 };
 use std::alloc::Global;
 
-// Returns whether the answer reports case `number` with the result `shown`.
+// Returns whether `answer` is the error that reports case `number` with the result `shown`.
 fn names(answer: &Result<(), CaseFault>, number: usize, shown: &str) -> bool {
     match answer {
         Err(CaseFault::Ended { case, found }) => *case == number && found.as_str() == shown,
@@ -20,7 +20,7 @@ fn names(answer: &Result<(), CaseFault>, number: usize, shown: &str) -> bool {
     }
 }
 
-// Returns whether the answer reports case `number`.
+// Returns whether `answer` is an error that reports case `number`.
 fn names_case(answer: &Result<(), CaseFault>, number: usize) -> bool {
     match answer {
         Err(CaseFault::Ended { case, .. }) => *case == number,
@@ -83,8 +83,8 @@ const OTHER_ENTITY: &str =
      3 port TDO\n4 port TMS\n5 port TCK\n6 number 2\n7 text BYPASS (11), EXTEST (00), SAMPLE (10)\n8 text 01\n\
      9 number 3\n10 text 0 (BC_1, Q(1), OUTPUT2, X),1 (BC_1, Q(2), OUTPUT2, X)\n";
 
-// What the row compares, two texts with their expected results, and the actual result of the second text. Only the first expected result is
-// right.
+// What the check compares, two texts with their expected results, and the actual result of the second text. Only the first expected result
+// is right.
 type Texts = (Shown, &'static [(Source, &'static str)], &'static str);
 
 static TEXTS: [Texts; 6] = [
@@ -260,7 +260,7 @@ fn wrong_strings_are_noticed(rt: HostRuntime) -> Result<(), CaseFault> {
     Ok(())
 }
 
-// Wrong values for the pattern 01: its symbols in the wrong order, its first symbol alone, and no symbol.
+// Wrong values for the pattern 01: its symbols in the wrong order, only the symbol nearest TDO, and no symbol.
 static SYMBOLS: [&[Symbol]; 3] = [&[Symbol::Zero, Symbol::One], &[Symbol::One], &[]];
 
 #[test]
@@ -333,8 +333,8 @@ fn wrong_orders_are_noticed(rt: HostRuntime) -> Result<(), CaseFault> {
     expect(rt.alloc(), 0, names(&answer, 1, "V2 item 5"))
 }
 
-// The number of the call of `put` that fails, the number of bytes that the sink then has, and the last of these bytes. In each pair, only
-// the first case is right.
+// The number of the call of `put` that fails, counted from 1, the number of bytes that the sink then has, and the last of these bytes. In
+// each pair, only the first case is right.
 static CUTS: [[(u32, usize, &str); 2]; 2] = [
     [(4, 45, ""), (5, 1068, "")],
     [(4, 45, ""), (6, 2055, " 598\n")],

@@ -29,7 +29,7 @@ const FEW_SCANS: &str =
     "SIR 4 TDI (A) TDO (5) MASK (F);\nSDR 4 TDI (0);\nSIR 4 TDI (0) TDO (5) MASK (F);\n\
      SDR 4 TDI (4);\nSDR 4 TDI (8) TDO (1) MASK (3);\n";
 
-// A command line, the expected result of its run, the status of the run, and a wrong expected result.
+// A command line, the right expected result of its run, the status of the run, and a wrong expected result.
 type Wrong = (&'static str, Ending<'static>, Status, Ending<'static>);
 
 static WRONG: [Wrong; 21] = [
@@ -56,7 +56,7 @@ static WRONG: [Wrong; 21] = [
     ),
     (SVF, Ending::Scans(SCANS), Status::Done, Ending::Puts(SCANS)),
     (COVER, Ending::Long(17), Status::Done, Ending::Long(18)),
-    // The right text with a wrong status.
+    // A wrong status. In the second of these rows, the output is right.
     (COVER, Ending::Done, Status::Done, Ending::Refused("")),
     (
         COVER,
@@ -73,7 +73,7 @@ static WRONG: [Wrong; 21] = [
         Ending::Refused("c line 2: entity not given\n"),
     ),
     (WITHOUT_DRV, NO_DRV, Status::Refused, Ending::Refused("")),
-    // The right refusal line with a wrong status.
+    // A wrong status. In the first of these rows, the refusal line is right.
     (
         WITHOUT_DRV,
         NO_DRV,
@@ -457,7 +457,7 @@ fn what_a_trouble_leaves_is_compared(rt: HostRuntime) -> Result<(), RowFault> {
     are_named(&rt, rt.alloc(), "troubles", &TROUBLES)
 }
 
-// A command line that is not valid. Standard error takes only a part of the usage line.
+// A command line that is not valid. Standard error takes only a part of the usage line, so the expected result is wrong.
 const CUT: [(Trouble, Row); 1] = [(
     Trouble::Notes(3),
     Row {

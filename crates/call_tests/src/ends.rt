@@ -9,7 +9,8 @@ use std::fs::File;
 use std::io::{BufWriter, Write};
 use std::rt::Files;
 
-// The name of a file, the maximum number of bytes to fetch, the result of the fetch, and the fetched bytes.
+// The name of a file, the maximum number of bytes to fetch, the result of the fetch, and the fetched bytes. If the file is too long, the
+// fetched bytes are one more than the maximum.
 type Fetch = (&'static str, u32, Result<(), FetchFault>, &'static [u8]);
 
 static FETCHES: [Fetch; 5] = [
@@ -80,7 +81,7 @@ fn reads_a_file_in_many_chunks(rt: HostRuntime) -> Result<(), Missed> {
     given
 }
 
-// The bytes of a call of `put`, and its result.
+// The bytes of a call of `put`, and the expected result of the call.
 type Put = (&'static [u8], Result<(), PutFault>);
 
 // Makes these calls of `put` in turn. Returns whether each has the expected result.
@@ -99,7 +100,8 @@ static WRITTEN: [Put; 3] = [(b"ab", Ok(())), (b"", Ok(())), (b"c", Ok(()))];
 
 static REFUSED: [Put; 1] = [(b"abc", Err(PutFault::Failed))];
 
-// Returns whether the file `name` has this text after these calls of `put`, while the sink that writes to the file still exists.
+// Makes these calls of `put` on a sink that writes to the file `name`. Returns whether each has its expected result and the file then has
+// this text, while the sink still exists.
 fn shows<W: Write + Drop>(
     rt: &impl Files,
     alloc: Global,
@@ -139,8 +141,8 @@ static CUT: [Put; 3] = [
     (b"ghijklm", Err(PutFault::Failed)),
 ];
 
-// Returns whether a sink with room for eight bytes has the right bytes after the calls of `put` in `CUT`. The second call is set to fail
-// after one byte.
+// Makes the calls of `put` in `CUT` on a sink with room for eight bytes. The second call is set to fail after one byte. Returns whether
+// each call has its expected result and the sink then has the right bytes.
 fn is_cut(alloc: Global) -> Result<bool, AllocError> {
     let mut sink = MemSink::with_room(alloc, 8)?;
     sink.fail_at(2, 1)?;

@@ -18,7 +18,7 @@ static CHAIN_FILES: [Answer; 39] = [
     (b"INERT U.1", "line 1: word not allowed"),
     (b"LINK R1 1 2-", "line 1: word not allowed"),
     (b"BYPASS U1 +3", "line 1: number not allowed"),
-    // The name of a part must not have a dot. Other words may have dots.
+    // The name of a part must not have a dot. The names of entities and packages may have dots.
     (b"DEVICE U1 D.RV P.Q", ""),
     (b"DEVICE U.1 DRV -", "line 1: word not allowed"),
     (b"DEVICE U1 DRV P\x7f", "line 1: word not allowed"),
@@ -164,7 +164,7 @@ fn is_pin(pin: &PinWord) -> bool {
     pin.part.bytes() == b"u1".as_slice() && pin.pin.bytes() == b"A1.B".as_slice()
 }
 
-// Returns whether the file has exactly one line. It must be line 2 of the text, with the net `n1` and pin `A1.B` of part `u1`.
+// Returns whether the file has exactly one line: line 2 of the text, in which the net `n1` has only the pin `A1.B` of part `u1`.
 fn is_in_upper_case(file: &NetFile) -> bool {
     match file.lines() {
         [line] => match line.pins.as_slice() {
@@ -295,8 +295,8 @@ static JOINED: [(&[u8], &[u8], Shown); 9] = [
         b"NET E R3.1\nNET F R3.2 R4.1\nNET G R4.2 R5.1\nNET A R1.1\nNET B R1.2 R2.1\nNET C R2.2 R5.2",
         Shown::Files(b" E E E E E E inert R1 inert R2 inert R3 inert R4 inert R5"),
     ),
-    // Pin R1.1 is in the nets A and C, and the first of them counts. LINK joins A with B, and the joined net has the name B, whose first
-    // line comes before the first line of A.
+    // Pin R1.1 is in the nets A and C, and only the net that comes first in the file counts. So LINK joins A with B. The joined net has the
+    // name B, since the first line of B comes before the first line of A.
     (
         b"LINK R1 1 2",
         b"NET Z\nNET B R1.2\nNET A R1.1\nNET C R1.1\nNET B\nNET A",

@@ -138,7 +138,8 @@ fn answer_in<R: Threads + Sync>(
     }
 }
 
-// Returns whether reading a batch of fewer than 1,000 bytes gives the answer `wanted`, both as a whole and in 1, 2, 3 and 64 pieces.
+// Returns whether reading a batch gives the answer `wanted`, both as a whole and in 1, 2, 3 and 64 pieces. Returns false if the batch has
+// 1,000 bytes or more.
 fn answers<R: Threads + Sync>(
     rt: &R,
     alloc: Global,

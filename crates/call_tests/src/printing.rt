@@ -9,8 +9,8 @@ use std::alloc::{AllocError, Global};
 // bytes that the sink then has.
 type Cut = (usize, u32, Result<(), PutFault>, usize);
 
-// A line of up to 1,024 bytes, with its line feed, is written by one call of `put`. A longer line is written in pieces of 1,024 bytes. The
-// last piece may be shorter.
+// One call of `put` writes a line of up to 1,024 bytes, including the line feed. A longer line takes a call for each piece of 1,024 bytes.
+// The last piece may be shorter.
 static CUTS: [Cut; 14] = [
     (0, 1, Err(PutFault::Failed), 0),
     (0, 2, Ok(()), 6),

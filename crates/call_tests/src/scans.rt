@@ -186,7 +186,7 @@ static SCAN_LINES: [&[u8]; 7] = [
     b"00000000010);\n",
 ];
 
-// Writes scans whose text has several lines: the test of a chain of 40 parts, or a scan of 300 bits.
+// Writes scans whose text has several lines: the test of a chain of 40 parts if `is_chain` is true, and a scan of 300 bits otherwise.
 fn put_lines(
     alloc: Global,
     is_chain: bool,

@@ -14,7 +14,7 @@ pub enum CaseFault {
         /// The result of the case.
         found: String,
     },
-    /// A text has 2^32 bytes or more.
+    /// A text has 2^32 bytes or more, or one of its lists has 1,000 items or more.
     #[error("too long")]
     TooLong,
     /// A string that a case needs is not in its grammar.

@@ -231,7 +231,8 @@ fn no_taps(alloc: Global) -> TapPorts {
     }
 }
 
-/// Returns a draft without contents.
+/// Returns a draft that has no contents, except that its instruction register has 2 bits. A draft is a device as a BSDL text states it,
+/// before its rules are checked.
 fn empty_draft(alloc: Global) -> Draft {
     Draft {
         entity: no_name(alloc),
@@ -261,7 +262,7 @@ fn fill_strings(alloc: Global, texts: &Texts, draft: &mut Draft) -> Result<(), C
     Ok(())
 }
 
-/// Fills an empty draft with these contents.
+/// Sets the parts of an empty draft to these contents.
 fn fill(alloc: Global, texts: &Texts, draft: &mut Draft) -> Result<(), CaseFault> {
     draft.entity = name(alloc, "DRV")?;
     draft.package = name(alloc, "P")?;
@@ -281,7 +282,7 @@ fn is_short(draft: &Draft) -> bool
         && draft.entries.len() < 1000
 }
 
-/// Like `fill`, but returns `TooLong` if a list of the draft has 1,000 items or more.
+/// Like `fill`, but returns the error `TooLong` if the draft has 1,000 or more ports, pin map entries, instructions or register entries.
 fn fill_short(alloc: Global, texts: &Texts, draft: &mut Draft) -> Result<(), CaseFault>
     ensures { OnOk result (HasShortLists draft.new) }
 {

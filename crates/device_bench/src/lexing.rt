@@ -22,8 +22,8 @@ pub fn lexings_hold(
     Ok(())
 }
 
-/// Checks the tokens of each text. The expected tokens are written as text with one token on each line: its kind, its bytes and its line
-/// number.
+/// Checks the tokens of each text, or the message of the lexer's fault. The expected tokens are written as text with one token on each
+/// line: its kind, its bytes and its line number.
 pub fn tokens_hold(alloc: Global, cases: &[(Source, &'static str)]) -> Result<(), CaseFault> {
     for (case, (source, wanted)) in cases.iter().enumerate() {
         let text = source.bytes(alloc)?;

@@ -32,7 +32,7 @@ impl Wanted<'_> {
     }
 }
 
-/// Checks the listing of each text's device.
+/// Checks the listing of the device that each text describes. A case has a text and the expected listing.
 pub fn listings_hold(alloc: Global, cases: &[(Source, &'static str)]) -> Result<(), CaseFault> {
     let mut line = Line::new(alloc)?;
     for (case, (source, wanted)) in cases.iter().enumerate() {
@@ -86,7 +86,7 @@ fn try_source(
     }
 }
 
-/// Checks the listing of a device. `line` is scratch space and may have any content.
+/// Checks that the listing of a device is as `wanted` says. `line` is scratch space and may have any content.
 fn try_device(
     alloc: Global,
     case: usize,

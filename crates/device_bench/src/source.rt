@@ -60,7 +60,7 @@ entity buf2 is
 end buf2;
 ";
 
-/// The number of a line, counted from 1, and the text that replaces the line with its line feed.
+/// The number of a line, counted from 1, and the text that replaces the line, including its line feed.
 pub type Line = (usize, &'static str);
 
 /// The text of a case.
@@ -72,7 +72,7 @@ pub enum Source {
     Buffer,
     /// The driver `DRV`, with these lines replaced.
     Driver(&'static [Line]),
-    /// This many first lines of the driver `DRV`, followed by this text.
+    /// The first lines of the driver `DRV`, followed by this text. The number is the number of lines to take.
     Front(usize, &'static str),
     /// The first lines of the driver `DRV`, followed by a text in which one byte is repeated.
     Filled {
@@ -87,12 +87,12 @@ pub enum Source {
         /// The text after the repeated byte.
         tail: &'static str,
     },
-    /// The driver `DRV` with a port of 500 bits in place of its outputs. Its pin map has only this port, on pins 100 to 599.
+    /// The driver `DRV` with an input port of 500 bits in place of its outputs. Its pin map has only this port, on pins 100 to 599.
     Wide,
 }
 
 impl Source {
-    /// Returns the bytes of the text, or `TooLong` if there are 2^32 or more.
+    /// Returns the bytes of the text, or the error `TooLong` if the text has 2^32 bytes or more.
     pub fn bytes(&self, alloc: Global) -> Result<Vec<u8>, CaseFault>
         ensures { IfOk result (λ bytes. length bytes.items < 2 ^ 32) }
     {
@@ -105,7 +105,7 @@ impl Source {
     }
 }
 
-/// Returns the bytes of a string, or `TooLong` if there are 2^32 or more.
+/// Returns the bytes of a string, or the error `TooLong` if the string has 2^32 bytes or more.
 pub fn bytes_of(text: &str) -> Result<&[u8], CaseFault>
     ensures { IfOk result (λ bytes. length bytes.now < 2 ^ 32) }
 {
@@ -151,7 +151,7 @@ fn add_line(line: &str, made: &mut Vec<u8>) -> Result<(), AllocError> {
     Ok(())
 }
 
-/// Returns the driver with these lines replaced.
+/// Returns the text of the driver `DRV` with these lines replaced.
 fn with_lines(alloc: Global, lines: &[(usize, &str)]) -> Result<Vec<u8>, AllocError> {
     let mut made = Vec::new(alloc);
     for (at, old) in DRV.lines().enumerate() {
@@ -163,7 +163,7 @@ fn with_lines(alloc: Global, lines: &[(usize, &str)]) -> Result<Vec<u8>, AllocEr
     Ok(made)
 }
 
-/// Returns the first `lines` lines of the driver.
+/// Returns the first `lines` lines of the driver `DRV`.
 fn front_of(alloc: Global, lines: usize) -> Result<Vec<u8>, AllocError> {
     let mut made = Vec::new(alloc);
     for line in DRV.lines().take(lines) {
@@ -172,7 +172,7 @@ fn front_of(alloc: Global, lines: usize) -> Result<Vec<u8>, AllocError> {
     Ok(made)
 }
 
-/// Returns a pin map in which port D has 500 pins with numbers of three digits.
+/// Returns the line of a pin map that has only port D, on the 500 pins 100 to 599.
 fn wide_map(alloc: Global) -> Result<String, AllocError> {
     let mut map = String::from_str(alloc, "constant P : PIN_MAP_STRING := \"D:(100")?;
     for pin in 101..600u32 {

@@ -44,7 +44,7 @@ pub fn strings_hold(
     Ok(())
 }
 
-/// Checks that a pattern has these symbols. The symbol nearest TDO comes first.
+/// Checks that the pattern `text` has the symbols `wanted`, of which the symbol nearest TDO comes first.
 pub fn symbols_hold(alloc: Global, text: &str, wanted: &[Symbol]) -> Result<(), CaseFault> {
     let found = match pattern(alloc, bytes_of(text)?) {
         Ok(code) => {

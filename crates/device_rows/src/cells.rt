@@ -35,7 +35,7 @@ const CONTROLS: [Change; 6] = [
     ),
 ];
 
-// One cell has two entries that say what its update latch drives.
+// Cell 0 has two entries that say what its update latch drives: an OUTPUT2 entry, and a CONTROL, CONTROLR or INTERNAL entry.
 const DRIVEN_TWICE: [Change; 3] = [
     (
         TWO_CELLS,
@@ -54,7 +54,8 @@ const DRIVEN_TWICE: [Change; 3] = [
     ),
 ];
 
-// A BIDIR entry says what its cell captures and what the update latch drives, so the cell may have neither an INPUT nor a CONTROL entry.
+// A BIDIR entry says what its cell captures and what the cell's update latch drives. So the cell must have neither an INPUT nor a CONTROL
+// entry.
 const CELLS_OF_BOTH_WAYS: [Change; 2] = [
     (
         "control, 1)\"",
@@ -124,7 +125,7 @@ const TWO_READERS: &str =
 
 const CELLS_OF_A_RECEIVER: [Change; 6] = [
     ("D(1), input, X", "D(1), output2, X", ": rule V14 item 1"),
-    // Both entries break rule V14, and the second entry also breaks rule V13.
+    // Both entries break rule V14, and the second entry also breaks rule V13. btest checks rule V13 first.
     (
         "D(1), input, X),\" &\n\"1 (BC_1, D(2), input, X",
         "D(1), output2, X),\" &\n\"1 (BC_1, D(1), output2, X",

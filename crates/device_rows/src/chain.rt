@@ -51,13 +51,13 @@ const CHAINS: [Row; 7] = [
         line: "chain c",
         ending: Ending::Scans(TWO_PARTS_SCANS),
     },
-    // An instruction register of 255 bits. The name of the part consists of the first and the last visible character.
+    // An instruction register of 255 bits. The name of the part consists of the first and the last visible ASCII character.
     Row {
         texts: &[("c", Plain("BYPASS !~ 255"))],
         line: "chain c",
         ending: Ending::Scans(LONGEST_REGISTER),
     },
-    // The name of a file may be any word.
+    // The name of the chain file may be any word, even `help`.
     Row {
         texts: &[("help", Plain(TWO_PARTS))],
         line: "chain help",
@@ -129,7 +129,8 @@ const DESCRIBED: [Line; 4] = [
     ),
 ];
 
-// Statements with too few or too many words, and statement names that are not in upper case.
+// Statements with too few or too many words, statements whose first word is not in upper case, and words that begin no statement of a chain
+// file.
 const NO_STATEMENTS: [Run; 17] = [
     (Plain("BYPASS U1"), NO_STATEMENT),
     (Plain("DEVICE U1 DRV - -"), NO_STATEMENT),
@@ -147,7 +148,7 @@ const NO_STATEMENTS: [Run; 17] = [
     (Plain("Pull N 1"), NO_STATEMENT),
     (Plain("link R1 1 2"), NO_STATEMENT),
     (Plain("NET N U1.1"), NO_STATEMENT),
-    // A byte order mark.
+    // A byte order mark at the beginning of the chain file.
     (Plain("\u{feff}BYPASS U1 2"), NO_STATEMENT),
 ];
 
@@ -252,7 +253,7 @@ const FILES: [Run; 22] = [
         Plain("DEVICE U1 DRV -\nBYPASS U9 1"),
         Ending::Refused("c line 2: number not allowed\n"),
     ),
-    // A byte that is not a valid character.
+    // A byte that is not a visible ASCII character.
     (
         Bytes(b"BYPASS U1 \xff"),
         Ending::Refused("c line 1: word not allowed\n"),
@@ -276,7 +277,7 @@ const FILES: [Run; 22] = [
         },
         Ending::Refused("limit: chain parts\n"),
     ),
-    // A text may have 4,194,304 bytes.
+    // A chain file has at most 4,194,304 bytes.
     (
         Repeated(" ", 4_194_304),
         Ending::Refused("c: no part in the chain\n"),
@@ -306,7 +307,7 @@ const NO_COMMANDS: [&str; 28] = [
     "batch g c n",
     "batch 0 g c n drv rcv",
     "batch 65 g c n drv rcv",
-    // A number of 21 digits.
+    // The number of workers has 21 digits.
     "diagnose 000000000000000000001 g c n drv rcv",
     "batch 000000000000000000001 g c n drv rcv",
     "svf c n -drv",

@@ -36,7 +36,7 @@ const OUTSIDE: [Change; 11] = [
         "INSTRUCTION_LENGTH of DRV : entity is 0000000002",
         " line 11: not in the grammar",
     ),
-    // A clock must have a number, and BOTH or LOW. A TAP attribute must be true.
+    // TAP_SCAN_CLOCK must have a number, and BOTH or LOW. Any other TAP attribute must be true.
     (
         "10.0e6, BOTH",
         "10.0e6, HIGH",

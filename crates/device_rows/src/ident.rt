@@ -73,7 +73,7 @@ const CODES: [Row; 9] = [
         line: "ident c idc rcv",
         ending: Ending::Scans("SDR 32 TDI (00000000);\n"),
     },
-    // Every part must have a description.
+    // Every part of the chain must have a description.
     Row {
         texts: &[
             ("c", Plain("DEVICE U1 IDC -\nBYPASS U2 4\n")),
@@ -127,7 +127,8 @@ fn compares_the_codes_of_the_parts(rt: HostRuntime) -> Result<(), RowFault> {
     tables_hold(&rt, rt.alloc(), &TABLES)
 }
 
-// Appends a field of 2,040 digits: the eight digits `digits`, 255 times. Each full line of the field has 64 digits.
+// Appends `label`, a field of 2,040 digits, and `end`. The field has the eight digits `digits`, 255 times. Each of its full lines has 64
+// digits.
 fn push_field(text: &mut String, label: &str, digits: &str, end: &str) -> Result<(), AllocError> {
     text.push_str(label)?;
     for k in 0..255u32 {

@@ -97,7 +97,7 @@ const OTHER_WORDS: [Run; 6] = [
 // Texts that differ from `DRV` in codes or names that the listing does not show, and describe the same device.
 const OTHER_CODES: [Run; 7] = [
     (Edited(DRV, &COMPLYING), SAME_LISTING),
-    // In a text of an older edition, the first code of SAMPLE preloads, with X as 0. The code of PRELOAD does not preload.
+    // In a text of an older edition, the preload code is the first code of SAMPLE, with 0 in place of X. The code of PRELOAD is not used.
     (
         Edited(DRV, &[("SAMPLE (10)", "PRELOAD (01), SAMPLE (1X, 00)")]),
         SAME_LISTING,
@@ -259,7 +259,7 @@ const OTHER_DEVICES: [Run; 8] = [
              PORT D IN 1 2\nCELL 0 CLOCK D(1) 0\nCELL 1 OBSERVE_ONLY D(2) 1\nCELL 2 INTERNAL * X\nCELL 3 CONTROLR * 0\n",
         ),
     ),
-    // In a text of 2001, the code of SAMPLE preloads if PRELOAD is not listed.
+    // In a text of 2001 that does not list PRELOAD, the preload code is the code of SAMPLE, with 0 in place of X.
     (
         Edited(DRV1, &[("SAMPLE (10), PRELOAD (00)", "SAMPLE (0X)")]),
         DRV1_LISTING,
@@ -271,7 +271,7 @@ const LISTED: [Run; 7] = [
     (Plain(BUF2), Ending::Puts(BUF2_LISTING)),
     (Plain(DRV1), DRV1_LISTING),
     (Edited(DRV, &EXCHANGED), Ending::Puts(DRV_LISTING)),
-    // An attribute that is not read may have deeply nested parentheses.
+    // An attribute that btest does not read may have deeply nested parentheses.
     (
         Filled {
             of: DRV,

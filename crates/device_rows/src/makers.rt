@@ -7,7 +7,7 @@ const FIRST: &str = "entity DRV is\n";
 const LAST: &str = "end DRV;\n";
 
 const AROUND_THE_ENTITY: [Change; 8] = [
-    // A byte order mark, and the byte 1A (Ctrl-Z) that old systems write at the end of a file.
+    // A byte order mark, and the end-of-file byte 1A (Ctrl-Z) of CP/M and DOS.
     (
         FIRST,
         "\u{feff}entity DRV is\n",
@@ -77,7 +77,7 @@ const NAMES: [Change; 5] = [
     ),
     (":= \"P\"", ":= \"UNDEFINED\"", ": rule V1 item 15"),
     (":= \"P\"", ":= \"P \"", ": rule V1 item 15"),
-    // An integer of nine digits is in the grammar.
+    // An integer of nine digits is in the grammar, so btest reports the rule that it breaks.
     (
         "INSTRUCTION_LENGTH of DRV : entity is 2",
         "INSTRUCTION_LENGTH of DRV : entity is 123456789",

@@ -247,7 +247,7 @@ const INSTRUCTIONS: [Change; 15] = [
     ("entity is \"01\"", "entity is \"001\"", ": rule V7 item 1"),
     ("entity is \"01\"", "entity is \"X1\"", ": rule V7 item 1"),
     ("entity is \"01\"", "entity is \"0X\"", ": rule V7 item 1"),
-    // A code of 31 characters, and a code of 33.
+    // An identification code of 31 characters, and one of 33.
     (
         LAST,
         "attribute IDCODE_REGISTER of DRV : entity is \"XXXX000100100011010000000000011\";\nend DRV;\n",

@@ -32,7 +32,7 @@ fn every_form_of_token(rt: HostRuntime) -> Result<(), CaseFault> {
     tokens_hold(rt.alloc(), &FORMS)
 }
 
-// All blanks, the first and the last byte of the marks, and the bytes just outside these ranges, which are neither blanks nor marks.
+// All blanks, the first and the last mark (`!` and `~`), and the bytes just outside these ranges, which are neither blanks nor marks.
 static LETTERS: [(Source, Result<(), LexFault>, usize); 9] = [
     (Bytes(b"a\x0bb\x0cc\td e\rf\ng"), Ok(()), 7),
     (Bytes(b"\x08"), Err(Byte(1)), 0),
@@ -42,7 +42,7 @@ static LETTERS: [(Source, Result<(), LexFault>, usize); 9] = [
     (Bytes(b"\x7f"), Err(Byte(1)), 0),
     // An underscore or a digit may be in a word, but not at its beginning.
     (Bytes(b"a_1 _a 1a"), Ok(()), 5),
-    // A string may contain any byte except a quote and the bytes that end lines.
+    // A string may contain any byte except a quote and the bytes that end lines. A comment may contain a quote, too.
     (Bytes(b"\"\x00\x0b\xff\""), Ok(()), 1),
     (Bytes(b"-- \x00\xff\"\r\na"), Ok(()), 1),
 ];

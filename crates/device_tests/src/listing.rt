@@ -63,8 +63,8 @@ fn lists_the_entries_of_a_cell_in_order(rt: HostRuntime) -> Result<(), CaseFault
     )
 }
 
-// The number of the call of `put` that fails, the number of bytes that the sink then has, and the last of these bytes. The first three
-// lines of the listing have 45 bytes together. The line of port D has 2,010 bytes.
+// The number of the call of `put` that fails, counted from 1, the number of bytes that the sink then has, and the last of these bytes. The
+// first three lines of the listing have 45 bytes together. The line of port D has 2,010 bytes.
 const CUTS: [(u32, usize, &str); 3] = [(4, 45, ""), (5, 1069, ""), (6, 2055, " 599\n")];
 
 #[test]

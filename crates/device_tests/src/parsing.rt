@@ -57,7 +57,7 @@ static CHANGED: [(Source, Reading); 24] = [
         Entity,
     ),
     (Driver(&[(14, "attribute FOO\n")]), Entity),
-    // Attributes that a text may omit, and inout and linkage ports.
+    // Optional attributes, and ports of modes inout and linkage.
     (
         Driver(&[(
             18,

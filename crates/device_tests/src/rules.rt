@@ -47,7 +47,7 @@ static INSTRUCTIONS: [(Change, (u32, u32)); 20] = [
     (Change::Of2001("PRELOAD (11), SAMPLE (10)"), (6, 1)),
     (Change::Of2001("PRELOAD (00), EXTEST (0X)"), (6, 2)),
     (Change::Of2001("PRELOAD (00), EXTEST (01)"), (0, 0)),
-    // If PRELOAD is listed, the code of SAMPLE does not preload and may be all ones.
+    // If PRELOAD is listed, the preload code is the code of PRELOAD, so the code of SAMPLE may be all ones.
     (
         Change::Of2001("SAMPLE (11), PRELOAD (00), EXTEST (01)"),
         (0, 0),
@@ -231,7 +231,7 @@ static ENTRY_ORDER: [(Change, (u32, u32)); 9] = [
         Change::Entries(1, "0 (B, Q(1), output2, X), 0 (B, Q(1), output2, X)"),
         (12, 0),
     ),
-    // Two cells have two entries each.
+    // Cells 1 and 0 each have two entries that together break rule V12. The fault must name cell 0.
     (
         Change::Entries(
             2,

@@ -105,7 +105,7 @@ static COMPLIANCE: [(&str, Result<&str, u32>); 18] = [
     ("(A,) (1)", Err(1)),
     ("(A(1234567890)) (1)", Err(1)),
     ("(A(1 2)) (1)", Err(1)),
-    // The second pair of parentheses is missing, does not contain a list of codes, or is not at the end.
+    // The second pair of parentheses is missing, comes after a comma, does not contain a list of patterns, or is not at the end.
     ("(A)", Err(2)),
     ("(A),(1)", Err(2)),
     ("(A) (2)", Err(2)),

@@ -85,7 +85,7 @@ impl<'a> Search<'a> {
         &self.suspects
     }
 
-// Returns true only if the telling net rules the fault out. A single fault of the board that is ruled out does not explain the log.
+    // Returns true only if the telling net rules the fault out. A single fault of the board that is ruled out does not explain the log.
     fn is_ruled_out(&self, fault: Single) -> bool
         ensures { result ≡ true → IsSingle self.now.logged.test.board fault
             → Explains self.now.logged.test.board fault self.now.logged.log → ⊥ }
@@ -112,9 +112,9 @@ impl<'a> Search<'a> {
         self.universe().candidate(place, near)
     }
 
-// Returns whether some pass observes all nets of a candidate's fault and the fault explains the log. If some pass observes all its nets,
-// the fault must be a single fault of the board. The telling net is tried first, since it rules out most candidates. The function takes the
-// entry of the gate so that no candidate is tried before the gate is entered.
+    // Returns whether some pass observes all nets of a candidate's fault and the fault explains the log. If some pass observes all its nets,
+    // the fault must be a single fault of the board. The telling net is tried first, since it rules out most candidates. The function takes the
+    // entry of the gate so that no candidate is tried before the gate is entered.
     fn explains(&self, fault: Single, _entered: &Entered) -> bool
         requires { observes_fault self.now.logged.test.plan fault ≡ true
             → IsSingle self.now.logged.test.board fault }
@@ -153,8 +153,8 @@ impl<'a> Search<'a> {
         }
     }
 
-// Tries the candidates of a piece and returns the faults that explain the log, in the order of the candidates. The piece must be a range of
-// the candidates.
+    // Tries the candidates of a piece and returns the faults that explain the log, in the order of the candidates. The piece must be a range of
+    // the candidates.
     fn search_piece<G: Gate>(
         &self,
         alloc: Global,
@@ -175,8 +175,8 @@ impl<'a> Search<'a> {
         Ok(faults)
     }
 
-/// Tries all candidates and returns the faults that explain the log, in the order of the candidates. The candidates are cut into as many
-/// pieces as there are workers. The pieces run side by side.
+    /// Tries all candidates and returns the faults that explain the log, in the order of the candidates. The candidates are cut into as many
+    /// pieces as there are workers. The pieces run side by side.
     pub fn faults<R: Threads + Sync, G: Gate>(
         &self,
         rt: &R,

@@ -3,12 +3,12 @@ use run_bench::Text::Plain;
 use run_bench::{Bench, CHAIN, NETS, Named};
 use std::alloc::{AllocError, Global};
 
-/// A run that writes a text.
+/// A run of a command that writes its whole output.
 #[derive(Clone, Copy)]
 pub struct Command {
     /// The words of the command line.
     pub line: &'static str,
-    /// The names of the texts that the run reads, in order.
+    /// The names of the texts that the run reads, in the order of the reads.
     pub names: &'static [&'static str],
     /// The text that the run writes.
     pub text: &'static str,
@@ -84,7 +84,7 @@ pub const LOGS: [Named; 3] = [
     ("b", Plain("BOARD A\n1\n2\nBOARD B\n0\n2\n")),
 ];
 
-/// Returns a bench with the texts that these runs read.
+/// Returns a bench with the texts that the runs of `COMMANDS` read.
 pub fn bench_of(alloc: Global) -> Result<Bench, AllocError> {
     let mut bench = Bench::with_board(alloc, CHAIN, NETS)?;
     bench.add(&LOGS)?;

@@ -11,7 +11,7 @@ const MOST: usize = 4_194_304;
 
 const MOST_OF_LOG: usize = 67_108_864;
 
-// Returns the maximum length of the text with this name, in bytes.
+// Returns the maximum length of the text with this name, in bytes. The logs `g` and `w` and the batch `b` may be longer than other texts.
 fn limit(name: &str) -> usize {
     if name == "g" || name == "w" || name == "b" {
         MOST_OF_LOG

@@ -66,7 +66,7 @@ fn puts_text(rt: &(impl Threads + Sync), alloc: Global, command: &Command) -> Re
     )
 }
 
-// Checks that a failed write has the status `WriteFault` even if standard error takes only a part of the refusal line.
+// Checks that a run whose write fails has the status `WriteFault` even if standard error takes only a part of the refusal line.
 fn has_short_note(
     rt: &(impl Threads + Sync),
     alloc: Global,

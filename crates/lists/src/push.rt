@@ -5,7 +5,8 @@ use std::alloc::AllocError;
 
 /// Appends the item if `passes` is true.
 pub fn push_if<T: Drop>(items: &mut Vec<T>, item: T, passes: bool) -> Result<(), AllocError>
-    ensures { OnOk result (items.new.items ≡ items.old.items ++ (if passes then item ∷ [] else [])) }
+    ensures { OnOk result
+        (items.new.items ≡ items.old.items ++ (if passes then item ∷ [] else [])) }
 {
     if passes {
         items.push(item)?;

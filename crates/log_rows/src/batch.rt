@@ -23,7 +23,7 @@ const LOGS: [Line; 22] = [
         Ending::Refused("g board 1: 1 rows of 2\n"),
     ),
     ("1\nBOARD A\n", Ending::Refused("g line 1: no board yet\n")),
-    // A byte order mark, and first words other than `BOARD`.
+    // A byte order mark before the first word, and first words other than `BOARD`.
     (
         "\u{feff}BOARD A\n1\n2\n",
         Ending::Refused("g line 1: no board yet\n"),
@@ -36,7 +36,7 @@ const LOGS: [Line; 22] = [
         "BOARDS A\n1\n2\n",
         Ending::Refused("g line 1: no board yet\n"),
     ),
-    // An id may have any visible characters, but must not begin with `#`.
+    // An id may have any visible ASCII characters, but must not begin with `#`.
     ("BOARD !~A#.\n1\n2\n", Ending::Puts("BOARD !~A#.\nPASS\n")),
     (
         "BOARD A\x7f\n1\n2\n",
@@ -71,7 +71,7 @@ const LOGS: [Line; 22] = [
         "BOARD A\n1\nG\n2\n",
         Ending::Refused("g line 3: digit not allowed\n"),
     ),
-    // A row must not have BOARD as a second word.
+    // A line whose second word is BOARD is a row and not a title. A row must have a single word.
     (
         "BOARD A\n1\n1 BOARD\n",
         Ending::Refused("g line 3: wrong length\n"),

@@ -25,7 +25,7 @@ const LOGS: [Line; 20] = [
     ("1\n", Ending::Refused("g: 1 rows of 2\n")),
     ("1\n22\n", Ending::Refused("g line 2: wrong length\n")),
     ("1 2\n", Ending::Refused("g line 1: wrong length\n")),
-    // A byte order mark.
+    // A byte order mark at the beginning of the log.
     (
         "\u{feff}1\n2\n",
         Ending::Refused("g line 1: wrong length\n"),
@@ -138,7 +138,7 @@ const BOARDS: [Row; 4] = [
         line: LINE,
         ending: Ending::Puts("FAIL 3\nstuck N1A 0\nopen U1.1 0\nopen U2.1 0\n"),
     },
-    // A board without a pass.
+    // A board whose test has no pass.
     Row {
         texts: &[
             ("c", Plain("DEVICE U2 RCV -\n")),
@@ -187,7 +187,8 @@ const APART_LOGS: [Line; 4] = [
         "000\n000\n000\n001\n009\n000\n",
         Ending::Puts("FAIL 1\nshort AND A X\n"),
     ),
-    // The nets A and B are wrong. No single fault affects both, since no pass observes them together.
+    // The receivers of nets A and B read wrong bits. No single fault affects both nets, since a short of two nets is a single fault only if
+    // some pass observes both.
     ("000\n008\n000\n000\n008\n000\n", Ending::Puts("FAIL 0\n")),
 ];
 

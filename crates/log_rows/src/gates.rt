@@ -1,5 +1,6 @@
 // Tests of how the pieces of `diagnose` and `batch` share the work on logs. A command with `w` workers cuts its work into `w` pieces.
-// Before each item of its work, a piece enters a gate with its own number and that of the item. The gates of this file watch these entries.
+// Before each item of its work, a piece enters a gate with its own number and the number of the item. Pieces and items are numbered from 0.
+// The gates of this file watch these entries.
 use bt_base::Gate;
 use run_bench::{Bench, CHAIN, Ending, NETS, RowFault, expect};
 use std::alloc::{AllocError, Global};
@@ -47,7 +48,8 @@ impl InStep {
         self.entries.iter().all(|own| entries <= own.load(SeqCst))
     }
 
-    // Returns whether each piece has made at least `held` entries, and none of them gave up waiting.
+    // Returns whether each piece has made at least `held` entries, no entry gave up waiting, and no piece with an unexpected number
+    // entered.
     fn has_met(&self) -> bool {
         !self.late.load(SeqCst) && self.have_made(self.held)
     }
@@ -78,7 +80,7 @@ const ENTRIES: u64 = 16;
 // The numbers of a piece and of the item with which it entered the gate.
 type Entry = (u64, u64);
 
-// A gate that records the items with which each piece enters, in order.
+// A gate that records the items with which each piece enters, in the order of the piece's entries.
 #[derive(Drop)]
 struct Entries {
     counts: Vec<AtomicU64>,
@@ -96,12 +98,13 @@ impl Entries {
         })
     }
 
-    // Returns the counter of a piece's entries, or `others` if the number of the piece is too large.
+    // Returns the counter of a piece's entries, or `others` if the number of the piece is `PIECES` or more.
     fn count(&self, piece: u64) -> &AtomicU64 {
         self.counts.get(piece as usize).unwrap_or(&self.others)
     }
 
-    // Returns the place for the item of entry `number` of a piece, or `others` if one of the two numbers is too large.
+    // Returns the counter that records the item of entry `number` of a piece. Returns `others` if `piece` is `PIECES` or more, or `number`
+    // is `ENTRIES` or more.
     fn item(&self, piece: u64, number: u64) -> &AtomicU64 {
         if piece < PIECES && number < ENTRIES {
             let i = piece * ENTRIES + number;
@@ -122,8 +125,8 @@ impl Entries {
         Ok(all)
     }
 
-    // Returns whether the entries, piece by piece, have these items in order. The piece of each entry must be at the same position of
-    // `pieces`.
+    // Returns whether the entries are exactly these, piece by piece: entry `i` of all entries has the piece `pieces[i]` and the item
+    // `items[i]`.
     fn are_of(&self, alloc: Global, pieces: &[u64], items: &[u64]) -> Result<bool, AllocError> {
         let all = self.all(alloc)?;
         let are_equal = all.len() == items.len()
@@ -158,7 +161,7 @@ const TWO_BOARDS: &str = "BOARD A\n1\n2\nBOARD B\n0\n2\n";
 
 const TWO_VERDICTS: &str = "BOARD A\nPASS\nBOARD B\nFAIL 3\nstuck N1 0\nopen U1.1 0\nopen U2.1 0\n";
 
-// A command line, the number of its workers, a log, the output of the command, and the number of entries of each piece that wait.
+// A command line, the number of its workers, a log, the output of the command, and the number of entries at which each piece waits.
 type Step = (&'static str, u64, &'static str, &'static str, u64);
 
 // Commands whose pieces must work at the same time. Otherwise an entry waits in vain for the other pieces.
@@ -197,15 +200,16 @@ const TEN_VERDICTS: &str =
     "BOARD A\nPASS\nBOARD B\nPASS\nBOARD C\nPASS\nBOARD D\nPASS\nBOARD E\nPASS\nBOARD F\nPASS\nBOARD G\nPASS\nBOARD H\nPASS\nBOARD I\nPASS\nBOARD J\nPASS\n";
 
 // The numbers of the single faults that `diagnose` tries for the log `STUCK`: the faults of the failing net, of its two pins, and of its
-// short with the other net.
+// shorts with the other net.
 const CANDIDATES: [u64; 10] = [0, 1, 4, 5, 6, 7, 12, 13, 14, 15];
 
 const NUMBERS: [u64; 10] = [0, 1, 2, 3, 4, 5, 6, 7, 8, 9];
 
-// The number of workers as a word, and the number of the piece that works on each of ten items.
+// The number of workers as a word, and, for each of ten items, the number of the piece that works on it.
 type Share = (&'static str, [u64; 10]);
 
-// Piece `p` of `w` pieces works on the items `10 p / w..10 (p + 1) / w`. Both quotients are rounded down.
+// Piece `p` of `w` pieces works on the items at positions `10 p / w..10 (p + 1) / w` of the list of ten items. Both quotients are rounded
+// down.
 const SHARES: [Share; 5] = [
     ("1", [0, 0, 0, 0, 0, 0, 0, 0, 0, 0]),
     ("2", [0, 0, 0, 0, 0, 1, 1, 1, 1, 1]),
@@ -225,7 +229,7 @@ struct Shared {
     items: &'static [u64],
 }
 
-// Runs the command, and compares the entries that its pieces make with the expected entries.
+// Runs the command. Checks its output and the entries that its pieces make.
 fn is_shared(
     rt: &(impl Threads + Sync),
     alloc: Global,

@@ -79,7 +79,7 @@ const SILENT: [(u32, &str); 5] = [
     (1, "FAIL 3\nstuck R1_0 0\nopen U1.1 0\nopen U2.33 0\n"),
     // The codes of the two nets, 1 and 2, have no 1 in common.
     (2, "FAIL 1\nshort AND R1_0 R1_1\n"),
-    // No single fault changes three nets.
+    // A single fault changes at most two nets.
     (3, "FAIL 0\n"),
     (1_928, "FAIL 0\n"),
 ];

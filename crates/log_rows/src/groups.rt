@@ -44,7 +44,8 @@ const THREE_NETS: [Line; 18] = [
         "# bits that are not compared\n\nf5\nf8\nf5\n",
         Ending::Puts("GROUPS 1\nGROUP 2\nNET N1\nNET N3\n"),
     ),
-    // Nets that never read 1 are not a group. Nor are two nets that each read only the 1 of the other net.
+    // Logs that no shorted nets give. In the first, no net ever reads 1. In the second, N1 and N3 each read only the 1 of the other. In the
+    // third, N1 and N2 read the 1 of N3, but N2 does not read the 1 of N1.
     ("00\n00\n00\n", Ending::Puts("GROUPS none\n")),
     ("01\n08\n04\n", Ending::Puts("GROUPS none\n")),
     ("05\n0D\n0D\n", Ending::Puts("GROUPS none\n")),
@@ -53,7 +54,7 @@ const THREE_NETS: [Line; 18] = [
     ("04\n08\n", Ending::Refused("g: 2 rows of 3\n")),
     ("04\n8\n01\n", Ending::Refused("g line 2: wrong length\n")),
     ("04\n0 8\n01\n", Ending::Refused("g line 2: wrong length\n")),
-    // A byte order mark.
+    // A byte order mark at the beginning of the log.
     (
         "\u{feff}04\n08\n01\n",
         Ending::Refused("g line 1: wrong length\n"),

@@ -68,7 +68,7 @@ fn net_lines(alloc: Global) -> Result<String, AllocError> {
     Ok(nets)
 }
 
-// Returns the text that has `piece` for each part. The number of the part replaces each `#`.
+// Returns the text that repeats `piece` for each part number from 0 to 63. The part number replaces each `#`.
 fn part_lines(piece: &'static str) -> Text {
     Text::Numbered {
         head: "",
@@ -126,8 +126,8 @@ fn all_nets_may_be_one_group(rt: HostRuntime) -> Result<(), RowFault> {
     bench.ends(&rt, "4,096 nets", 0, LINE, Ending::PutsAll(ONE_GROUP))
 }
 
-// Returns the row in which the nets of pins `pin` and `pin + 1` of a receiver read 1, and all other nets read 0. `pin` must be even. The
-// last receiver is rightmost in the row. Within a receiver, the first pin is rightmost.
+// Returns the row in which pins `pin` and `pin + 1` of receiving part `part` read 1, and all other pins read 0. `pin` must be even. The
+// last part is rightmost in the row. Within a part, the first pin is rightmost.
 fn pair_row(alloc: Global, part: u32, pin: u32) -> Result<String, AllocError> {
     let behind = PARTS.saturating_sub(part.saturating_add(1)) as usize * 16 + (pin / 4) as usize;
     let mut row = "0".repeat(

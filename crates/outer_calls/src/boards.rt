@@ -4,7 +4,8 @@ ghost use Rattle.board_defs.specs.Pins.{IsOnBoard, drive_at, guarded_at, receive
 
 use board_defs::{Board, Drive, PinRef};
 
-/// Returns whether the net is guarded. On a guarded net, only drivers that are always on may be enabled. The board must have the net.
+/// Returns whether the net is guarded. A safe setting enables no driver of a guarded net, except drivers that are always on. The board must
+/// have the net.
 pub fn is_guarded(board: &Board, net: u32) -> bool
     requires { net < length board.now.nets }
     ensures { result ≡ guarded_at board.now net }

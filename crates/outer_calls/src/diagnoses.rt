@@ -41,8 +41,8 @@ pub fn diagnose<R: Threads + Sync, G: Gate>(
     diagnoser::diagnose(rt, alloc, board, plan, log, workers, gate)
 }
 
-/// Returns the blocks of a batch, or its first fault. The log of each block has `rows` rows of `len` bits. The text must be shorter than
-/// 2^32 bytes.
+/// Returns the blocks of a batch, or the first fault of the text `bytes`. The log of each block has `rows` rows of `len` bits. The text
+/// must be shorter than 2^32 bytes.
 pub fn blocks(alloc: Global, bytes: &[u8], rows: u64, len: u32) -> Result<Vec<Block>, BatchFault>
     requires { length bytes.now < 2 ^ 32 }
     ensures read { Gives batch_told (λ blocks. blocks.items)
@@ -77,7 +77,8 @@ pub fn diagnose_all<R: Threads + Sync, G: Gate>(
     batch_diag::diagnose_all(rt, alloc, board, plan, blocks, workers, gate)
 }
 
-/// States that at most one text is the text of a batch's diagnoses, so neither the number of workers nor the gate changes this text.
+/// States that a board and the blocks of a batch have at most one text of their diagnoses. So neither the number of workers nor the gate
+/// changes this text.
 pub fn one_batch_text()
     ensures { OneBatchText }
 {

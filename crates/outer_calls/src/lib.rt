@@ -1,5 +1,5 @@
-//! Callers of the public functions that the program does not call. Each function here calls one of them and has the same contract. So if a
-//! clause of such a function gets weaker, a proof fails here. For any other public function, a proof of the program fails.
+//! Callers of the public functions that the program does not call. Each function here calls one of them and has the same contract as the
+//! function that it calls. So if a change weakens the contract of the called function, the proof of its caller fails.
 #![tactic(auto)]
 
 pub mod boards;

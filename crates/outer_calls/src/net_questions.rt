@@ -1,5 +1,6 @@
-//! Calls of `net_classes` that answer its six questions about the nets, pins and controls of a board. Each call needs the classes of this
-//! board.
+//! Calls of `net_classes` that answer its six questions about the nets, pins and controls of a board. In each call, `classes` must be the
+//! classes of the board. A setting is a set of enabled controls, and a safe setting enables at most one driver of each net, among other
+//! rules.
 ghost use Rattle.std.specs.Prelude.{◌≡◌, ◌≢◌, ◌↔◌, ◌<◌, length, IsTrue, MatchOption};
 ghost use Rattle.board_defs.specs.Pins.{IsCell, IsOnBoard};
 ghost use Rattle.board_defs.specs.Coverage.{AreTogether, ArePaired, IsCovered, IsReason, IsTestedDriver, IsTestedReceiver, IsUseful};
@@ -10,7 +11,8 @@ ghost use Rattle.net_classes.specs.inner.Kept.{HoldsOfNet};
 use board_defs::{Board, Ctl, PinRef, Reason};
 use net_classes::Classes;
 
-/// Returns the first reason why the net is not covered, or None if some safe setting observes it. The board must have the net.
+/// Returns the reason why no safe setting observes the net: the first that applies, in the order of `Reason`. Returns None if some safe
+/// setting observes the net. The board must have the net.
 pub fn reason(classes: &Classes, board: &Board, net: u32) -> Option<Reason>
     requires classes { AreClasses board.now classes.now }
     requires net { net < length board.now.nets }

@@ -22,8 +22,8 @@ pub fn plan(alloc: Global, board: &Board, passes: Vec<Setting>) -> Result<Plan, 
     Plan::new(alloc, board, passes)
 }
 
-/// Fills the rows with scan `k` of the plan's test, counted from 0, and returns the shape of the scan. `k` must be below the number of
-/// scans, and each row must have room for an instruction scan and for a data scan.
+/// Fills the rows with the bits of scan `k` of the plan's test, counted from 0, and returns the shape of the scan. The plan must be a plan
+/// of the board, and `k` must be below the number of scans. Each row must have room for an instruction scan and for a data scan.
 pub fn fill(
     board: &Board,
     plan: &Plan,

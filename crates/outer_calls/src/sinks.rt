@@ -5,8 +5,8 @@ ghost use Rattle.bt_base.specs.MemSink.{taken_of, room_of, puts_of, faults_of, f
 use bt_base::MemSink;
 use std::alloc::AllocError;
 
-/// Makes call number `call` of `put` fail and take at most `taken` bytes. Calls that were chosen before still fail, too. If memory runs
-/// out, nothing changes.
+/// Makes call number `call` of `put` fail and take at most `taken` bytes. The first call has number 1. Calls that were chosen before still
+/// fail, too. If memory runs out, nothing changes.
 pub fn fail_put(sink: &mut MemSink, call: u32, taken: u32) -> Result<(), AllocError>
     ensures ok { OnOk result
         (failing_of sink.new ≡ failing_of sink.old ++ record { call = call; taken = taken } ∷ []) }

@@ -5,7 +5,8 @@ ghost use Rattle.bt_base.specs.Memory.{held_text, failing_of, fetches_of, faults
 use bt_base::MemStore;
 use std::alloc::AllocError;
 
-/// Makes fetch number `call` fail. Fetches that were chosen before still fail, too. If memory runs out, nothing changes.
+/// Makes fetch number `call` fail. The first fetch has number 1. Fetches that were chosen before still fail, too. If memory runs out,
+/// nothing changes.
 pub fn fail_fetch(store: &mut MemStore, call: u32) -> Result<(), AllocError>
     ensures ok { OnOk result (failing_of store.new ≡ failing_of store.old ++ call ∷ []) }
     ensures err { OnErr result (failing_of store.new ≡ failing_of store.old) }

@@ -1,4 +1,4 @@
-// Tests of `diagnose_all`, which returns a verdict on each log of a batch. The logs are of the board `PAIR`, which has two nets.
+// Tests of `diagnose_all`, which returns a verdict on each log of a batch. The logs are logs of the test of the board `PAIR`.
 ghost use Rattle.std.specs.Prelude.{◌≡◌, ◌≤◌};
 ghost use Rattle.board_defs.specs.Passes.{passes_of};
 ghost use Rattle.scan_planner.specs.Plans.{IsPlanOf};
@@ -13,7 +13,7 @@ use scan_planner::Plan;
 use std::alloc::{AllocError, Global};
 use std::thread::Threads;
 
-// The logs of three boards. The first log passes. One single fault explains the second log, and none explains the third.
+// The logs of three boards. The first log passes. Exactly one single fault explains the second log, and none explains the third.
 const BATCH: &str = "BOARD A\n1\n2\nBOARD B\n0\n0\nBOARD C\n1\n1\n";
 
 // The expected verdict on a log.
@@ -52,7 +52,8 @@ fn is_expected(alloc: Global, verdict: &Verdict, expected: &Expected) -> Result<
     Ok(true)
 }
 
-// Checks that this number of workers, from 1 to 64, finds the expected verdicts. The plan must be built from the board's passes.
+// Checks that `diagnose_all` returns the expected verdicts with this number of workers, from 1 to 64. The plan must be built from the
+// board's passes.
 fn verdicts_hold(
     rt: &(impl Threads + Sync),
     alloc: Global,

@@ -1,4 +1,5 @@
-// Small boards with devices of `run_bench`, and functions that return a board's plan and logs.
+// Small boards with devices of `run_bench`, functions that return a board's plan and logs, and functions that return whether a board has
+// a given cell, pin or net.
 ghost use Rattle.std.specs.Prelude.{◌≡◌, ◌*◌, ◌<◌, ◌^◌, length, All, IfOk, IsTrue};
 ghost use Rattle.board_defs.specs.Passes.{passes_of};
 ghost use Rattle.board_defs.specs.Pins.{data_bits, IsCell, IsOnBoard};
@@ -34,7 +35,7 @@ pub const GROUPS: Files = Files {
     nets: "NET A U1.1 U2.1\nNET X U1.2 U1.3 U2.2\nNET B U1.4 U3.1\n",
 };
 
-/// A board with a net that a bidirectional pin and a three-state driver share. Only the bidirectional pin receives.
+/// A board whose only net connects a bidirectional pin with a three-state driver. Only the bidirectional pin is a receiver.
 pub const BIDIR: Files = Files {
     chain: "DEVICE U1 BI -\nDEVICE U2 TS -\n",
     nets: "NET N U1.1 U2.1\n",
@@ -73,7 +74,7 @@ fn are_short(texts: &[Vec<u8>]) -> bool
     texts.iter().all(is_short)
 }
 
-/// Returns the board of these files, or `UNREAD` if they are too long or do not describe a board.
+/// Returns the board of these files. The error is `UNREAD` if a file has more than 10,000 bytes or the files do not describe a board.
 pub fn board_of(alloc: Global, files: Files) -> Result<Board, RowFault> {
     let texts = texts(alloc)?;
     let (chain, nets) = (files.chain.as_bytes(), files.nets.as_bytes());
@@ -95,7 +96,7 @@ pub fn plan_of(alloc: Global, board: &Board) -> Result<Plan, AllocError>
     plan(alloc, board, &classes)
 }
 
-/// Returns the log that the text contains, or `UNREAD` if the text is too long or is not a log of this plan's test.
+/// Returns the log in the text. The error is `UNREAD` if the text has more than 10,000 bytes or is not a log of this plan's test.
 pub fn log_of(alloc: Global, board: &Board, plan: &Plan, text: &str) -> Result<Log, RowFault>
     ensures rows { IfOk result (λ log. length log ≡ length plan.now.passes * plan.now.width) }
     ensures bits { IfOk result (λ log. All (λ row. length row ≡ data_bits board.now) log) }

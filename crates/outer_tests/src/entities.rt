@@ -1,4 +1,4 @@
-// Tests of `read_entity`, which reads the entity of a BSDL text. The fault of a text has the number that the caller gives the text.
+// Tests of `read_entity`, which reads the entity of a BSDL text. The caller gives the text a number, and a fault must have this number.
 ghost use Rattle.std.specs.Prelude.{◌<◌, ◌^◌, length};
 
 use bsdl_lexer::LexFault;
@@ -43,7 +43,7 @@ fn is_entity(entity: &Entity, name: &str, ports: usize, maps: usize) -> bool {
         && entity.constants.len() == maps
 }
 
-// Returns whether the fault is the expected fault, in the text with this number.
+// Returns whether the fault is the expected fault and has this number of a text.
 fn is_fault(found: &InputFault, number: u32, reading: Reading) -> bool {
     match (found, reading) {
         (InputFault::Lex { text, fault }, Reading::Byte(line)) => {
@@ -62,8 +62,8 @@ fn is_fault(found: &InputFault, number: u32, reading: Reading) -> bool {
     }
 }
 
-// Returns whether reading the text gives the expected result. A fault must have the text's number. The text must be shorter than 2^32
-// bytes.
+// Returns whether `read_entity` gives the expected result for the text. A fault must have the text's number. The text must be shorter
+// than 2^32 bytes.
 fn ends(alloc: Global, text: &[u8], number: u32, reading: Reading) -> bool
     requires { length text.now < 2 ^ 32 }
 {

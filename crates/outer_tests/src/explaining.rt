@@ -1,5 +1,6 @@
-// Tests of the single faults of small boards and of the diagnosis of logs. A universe numbers the possible single faults of a board, and
-// these numbers are the places of the faults. The answers are worked out by hand from the definitions.
+// Tests of the single faults of small boards and of the diagnosis of logs. The universe of a board numbers its single faults from 0. The
+// number of a fault is its place. A net is covered if some pass observes it. Each pair of covered nets has four places for its shorts. If
+// no pass observes both nets, these four places have no fault. The answers are worked out by hand from the definitions.
 ghost use Rattle.std.specs.Prelude.{◌≡◌, ◌*◌, ◌≤◌, length, All, IfSome};
 ghost use Rattle.board_defs.specs.Faults.{IsSingle};
 ghost use Rattle.board_defs.specs.Passes.{passes_of};
@@ -25,13 +26,13 @@ struct Logged {
     log: &'static str,
     // True if every compared bit of the log is the expected bit.
     passes: bool,
-    // The places of the suspects, which are the faults that may explain the log.
+    // The suspects. A fault can explain the log only if its place is one of these places.
     suspects: &'static [u64],
     // The places of the faults that explain the log.
     explaining: &'static [u64],
 }
 
-// A board, the fault at each of its places, and logs of its test.
+// A board, the fault at each place of its universe, and logs of its test. A place without a fault has an empty text.
 struct Rows {
     name: &'static str,
     files: Files,
@@ -58,16 +59,17 @@ const PAIR_PLACES: [&str; 16] = [
     "second 0 1",
 ];
 
-// The places of the shorts of the two nets of the board `PAIR`.
+// The places of the shorts of nets 0 and 1 of the board `PAIR`.
 const PAIR_SHORTS: &[u64] = &[12, 13, 14, 15];
 
-// The places of all faults of the first net of the board `PAIR`.
+// The places of all faults of net 0 of the board `PAIR`: of the net itself, of its two pins, and of its shorts with net 1.
 const OF_FIRST: &[u64] = &[0, 1, 4, 5, 6, 7, 12, 13, 14, 15];
 
-// The places of all faults of the second net of the board `PAIR`.
+// The places of all faults of net 1 of the board `PAIR`: of the net itself, of its two pins, and of its shorts with net 0.
 const OF_SECOND: &[u64] = &[2, 3, 8, 9, 10, 11, 12, 13, 14, 15];
 
-// Logs of the board `PAIR`. In the two rows, the first net carries 1 and then 0, and the second net carries 0 and then 1.
+// Logs of the board `PAIR`. Net 0 carries 1 in the first row and 0 in the second. Net 1 carries 0 in the first row and 1 in the second. Bit
+// 0 of a row is read from net 0, and bit 1 from net 1.
 const PAIR_LOGS: [Logged; 10] = [
     Logged {
         log: "1\n2\n",
@@ -170,13 +172,14 @@ const GROUPS_PLACES: [&str; 32] = [
 // The places of the shorts of nets 0 and 1 of the board `GROUPS`.
 const GROUPS_SHORTS: &[u64] = &[20, 21, 22, 23];
 
-// The places of all faults of net 0 of the board `GROUPS`.
+// The places of net 0's faults, and the four places of nets 0 and 2, which have no fault because the nets are not paired: no pass observes
+// both.
 const OF_NET_0: &[u64] = &[0, 1, 6, 7, 8, 9, 20, 21, 22, 23, 24, 25, 26, 27];
 
 const OF_NET_1: &[u64] = &[2, 3, 10, 11, 12, 13, 14, 15, 20, 21, 22, 23, 28, 29, 30, 31];
 
-// Logs of the board `GROUPS`, whose nets have the codes 1, 2 and 3. The pass of the first three rows observes nets 0 and 1, at bits 2 and
-// 3. The pass of the other three rows observes nets 1 and 2, at bits 3 and 0.
+// Logs of the board `GROUPS`. Nets 0, 1 and 2 have the codes 1, 2 and 3. The test has two passes with three rows each. The first pass
+// observes net 0 at bit 2 and net 1 at bit 3. The second pass observes net 1 at bit 3 and net 2 at bit 0.
 const GROUPS_LOGS: [Logged; 7] = [
     Logged {
         log: "004\n008\n000\n001\n009\n000\n",
@@ -214,8 +217,8 @@ const GROUPS_LOGS: [Logged; 7] = [
         suspects: OF_NET_0,
         explaining: &[23],
     },
-    // Only net 2 is wrong: its receiver reads the bits of net 1. An AND short gives the same bits, since net 2 carries 1 in each row in
-    // which net 1 carries 1.
+    // Only the bits of net 2 are wrong: they are the bits of net 1. The short `first 1 2` gives these bits, since both nets then have net
+    // 1's value. The AND short gives them, too, since net 2 carries 1 in each row in which net 1 carries 1.
     Logged {
         log: "004\n008\n000\n000\n009\n000\n",
         passes: false,
@@ -284,8 +287,8 @@ static BOARDS: [Rows; 4] = [
     },
 ];
 
-// A board, the plan of its test, and the universe of its single faults. The functions of this file that take it require a plan that is
-// built from the board's passes and a universe of this board. Each log must have the plan's rows, each as long as a data scan.
+// A board, the plan of its test, and the universe of its single faults. The plan must be built from the board's passes, and the universe
+// must be that of the board. If a function of this file also takes a log, the log must have the plan's rows, each as long as a data scan.
 #[derive(Clone, Copy)]
 struct Tested<'a> {
     board: &'a Board,
@@ -302,7 +305,7 @@ fn word(kind: Kind) -> &'static str {
     }
 }
 
-/// Returns a fault as the tables write it, or an empty text if there is no fault.
+/// Returns a fault as the tables of this file write it, or an empty text if there is no fault.
 pub fn shown(alloc: Global, fault: Option<Single>) -> Result<String, AllocError> {
     match fault {
         None => Ok(String::new(alloc)),
@@ -332,7 +335,7 @@ fn fault_at(tested: Tested<'_>, place: u64) -> Option<Single>
     tested.universe.at(tested.plan, place)
 }
 
-// Returns whether the faults at the board's places, in order, are these faults. They are written as `shown` writes them.
+// Returns whether the universe has exactly these places: place `i` has the fault `places[i]`, written as `shown` writes it.
 fn has_places(alloc: Global, tested: Tested<'_>, places: &[&str]) -> Result<bool, AllocError>
     requires plan { IsPlanOf tested.board.now tested.plan.now }
     requires passes { tested.plan.now.passes ≡ passes_of tested.board.now }
@@ -375,7 +378,8 @@ fn explains(tested: Tested<'_>, log: &Log, compared: &ComparedLog<'_>, place: u6
     }
 }
 
-// Returns whether the faults at these places explain a log, and no other fault does. `nets` must be the nets that differ in the log.
+// Returns whether the faults at these places explain a log, and no other fault does. Returns false if `matches` and `matches_by` disagree
+// on any fault. `nets` must be the nets that differ in the log.
 fn only_these_explain(
     tested: Tested<'_>,
     log: &Log,
@@ -398,7 +402,7 @@ fn only_these_explain(
     true
 }
 
-// Returns whether the suspects are these places.
+// Returns whether the suspects are these places, in this order.
 fn are_places(suspects: &Suspects, places: &[u64]) -> bool {
     let count = suspects.count();
     if count != places.len() as u64 {
@@ -412,7 +416,7 @@ fn are_places(suspects: &Suspects, places: &[u64]) -> bool {
     true
 }
 
-// Returns whether the suspects of a log are these places.
+// Returns whether the suspects of a log are these places, in this order.
 fn suspects_are(
     alloc: Global,
     tested: Tested<'_>,
@@ -429,7 +433,8 @@ fn suspects_are(
     Ok(are_places(&suspects, places))
 }
 
-// Returns whether the faults are the faults at these places. `words` has the fault at each place, as `shown` writes it.
+// Returns whether the faults are those at these places, in this order. `words` has the fault at each place of the universe, as `shown`
+// writes it.
 fn are_faults(
     alloc: Global,
     faults: &[Single],
@@ -448,7 +453,7 @@ fn are_faults(
     Ok(true)
 }
 
-// Returns whether `diagnose` finds the faults at these places with this number of workers, from 1 to 64.
+// Returns whether `diagnose` finds the faults at these places with this number of workers, from 1 to 64. Ignores the universe.
 fn diagnosis_is(
     rt: &(impl Threads + Sync),
     alloc: Global,
@@ -489,7 +494,7 @@ fn verdict_is(
     are_faults(alloc, verdict.faults.as_slice(), places, words)
 }
 
-// Checks the row of a log: the results of the functions that take the log alone.
+// Checks the row of a log: whether the log passes, its suspects, and the faults that `diagnose` finds with 1, 2 and 64 workers.
 fn log_holds(
     rt: &(impl Threads + Sync),
     alloc: Global,

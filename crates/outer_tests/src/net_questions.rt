@@ -8,8 +8,8 @@ use net_classes::{Classes, classify};
 use run_bench::{RowFault, expect};
 use std::alloc::Global;
 
-// A pin or a control. For a pin, these are the number of its net and its place in the net. For a control, these are the number of its part
-// and the number of its cell.
+// A pin or a control, with all numbers counted from 0. A pin has the number of its net and its place among the net's pins. A control has
+// the number of its part in the chain and the number of its cell.
 type Place = (u32, u32);
 
 // The way in which a pin drives its net. The cell of a one-sided driver both carries its data and enables it, and no safe setting enables
@@ -45,13 +45,13 @@ enum Question {
     Switches(Place, bool),
     // True if this pin is a receiver.
     Receives(Place, bool),
-    // True if something that no setting controls may drive the net of this pin.
+    // True if this pin is dark: something that no setting controls may drive the pin's net.
     Dark(Place, bool),
-    // True if this net is guarded: only drivers that are always on may be enabled on it.
+    // True if this net is guarded. A safe setting enables no driver of a guarded net, except drivers that are always on.
     Guarded(u32, bool),
 }
 
-// The answers for the board `PAIR`. Each of its nets has a driver that is always on, and a receiver.
+// The answers for the board `PAIR`. Each of its two nets has a driver that is always on, and a receiver.
 const PAIR_ANSWERS: [Question; 16] = [
     Question::Reason(0, None),
     Question::Reason(1, None),
@@ -99,7 +99,7 @@ const GROUPS_ANSWERS: [Question; 22] = [
     Question::ReceiverTested((2, 0), false),
 ];
 
-// The answers for the board `BIDIR`. While the bidirectional pin drives, no other pin receives.
+// The answers for the board `BIDIR`. Only the bidirectional pin is a receiver, so no other pin can test its driver.
 const BIDIR_ANSWERS: [Question; 12] = [
     Question::Reason(0, None),
     Question::Drive((0, 0), Driven::By((0, 1))),
@@ -125,8 +125,8 @@ const PULLED_ANSWERS: [Question; 7] = [
     Question::ReceiverTested((0, 1), true),
 ];
 
-// A board on which the net of an open-drain driver is pulled to the value that the driver drives. No test can show whether the driver
-// works.
+// A board on which the net of an open-drain driver is pulled to 0, the only value that the driver drives. No test can show whether the
+// driver works.
 const PULLED_DOWN: Files = Files {
     chain: "DEVICE U1 OD -\nDEVICE U2 RCV1 -\nPULL N 0\n",
     nets: "NET N U1.1 U2.1\n",
@@ -242,7 +242,8 @@ fn number(reason: Option<Reason>) -> u32 {
     }
 }
 
-// Returns whether a question about a net has the right answer. Returns true for any other question. `classes` must be the board's.
+// Returns whether the board answers a question about nets correctly. Returns true for any other question. `classes` must be the classes of
+// the board.
 fn net_answers(board: &Board, classes: &Classes, question: Question) -> bool
     requires { AreClasses board.now classes.now }
 {
@@ -258,7 +259,8 @@ fn net_answers(board: &Board, classes: &Classes, question: Question) -> bool
     }
 }
 
-// Returns whether a question about controls has the right answer. Returns true for any other question. `classes` must be the board's.
+// Returns whether the board answers a question about controls correctly. Returns true for any other question. `classes` must be the classes
+// of the board.
 fn control_answers(board: &Board, classes: &Classes, question: Question) -> bool
     requires { AreClasses board.now classes.now }
 {
@@ -275,8 +277,8 @@ fn control_answers(board: &Board, classes: &Classes, question: Question) -> bool
     }
 }
 
-// Returns whether a question about the tests of a pin has the right answer. Returns true for any other question. `classes` must be the
-// board's.
+// Returns whether `classes` answers a question about tested drivers and receivers correctly. Returns true for any other question. `classes`
+// must be the classes of the board.
 fn tested_answers(board: &Board, classes: &Classes, question: Question) -> bool
     requires { AreClasses board.now classes.now }
 {
@@ -315,7 +317,7 @@ fn is_driven(found: Option<Drive>, wanted: Driven) -> bool {
     }
 }
 
-// Returns whether a question about a pin of the board has the right answer. Returns true for any other question.
+// Returns whether the board answers a question about its pins correctly. Returns true for any other question.
 fn pin_answers(board: &Board, question: Question) -> bool {
     match question {
         Question::Drive(at, wanted) => {

@@ -1,5 +1,5 @@
-// Tests of the plans and the walking tests of small boards, with the rows of each scan. The scans are worked out by hand from the
-// definitions.
+// Tests of the plans and the walking tests of small boards. They compare the TDI, TDO and MASK bits of each scan. In each row of a walking
+// test, one net of the test carries 1 and its other nets carry 0. The scans are worked out by hand from the definitions.
 ghost use Rattle.std.specs.Prelude.{◌≡◌, ◌<◌, IfOk};
 ghost use Rattle.board_defs.specs.Passes.{passes_of};
 ghost use Rattle.scan_planner.specs.Plans.{IsPlanOf, IsRoom, scan_count};
@@ -20,12 +20,12 @@ use std::alloc::{AllocError, Global};
 use tap_defs::Shape;
 use walk_test::Walk;
 
-// A scan. Bit 0 of each row is nearest TDO.
+// A scan. Bit 0 of TDI, TDO and MASK belongs to the cell nearest TDO.
 #[derive(Clone, Copy)]
 enum Scan {
     // An instruction scan with these bits for TDI, TDO and MASK.
     Codes(u64, u64, u64),
-    // A data scan with these bits for TDI, which compares nothing.
+    // A data scan with these bits for TDI. It compares nothing.
     Shifts(u64),
     // A data scan with these bits for TDI, TDO and MASK.
     Compares(u64, u64, u64),
@@ -46,7 +46,7 @@ fn is_scan(shape: Shape, [tdi, tdo, mask]: [u64; 3], scan: Scan) -> bool {
 enum Making {
     // The plan is made from the passes of the board.
     Passes,
-    // The plan is made from the passes of the board and the tables of its nets' pins.
+    // `plan_by` makes the plan from the tables of the nets' pins.
     Pins,
     // The plan is made from an empty list of passes.
     Nothing,
@@ -57,7 +57,7 @@ struct Planned {
     name: &'static str,
     files: Files,
     making: Making,
-    // Nets, each with its code.
+    // The numbers of nets, each with the net's code.
     codes: &'static [(u32, u32)],
     rows: u64,
     scans: &'static [Scan],
@@ -147,7 +147,7 @@ static PLANS: [Planned; 5] = [
     },
 ];
 
-// Returns the bits of a row as a number. Bit 0 of the row is the lowest.
+// Returns the bits of a row as a number, at most 2^64 - 1. Bit 0 of the row is the least significant bit.
 fn number(row: &Row) -> u64 {
     let count = row.len();
     let mut number = 0u64;
@@ -232,7 +232,7 @@ fn new_plan(alloc: Global, board: &Board) -> Result<Plan, AllocError>
     Ok(plan)
 }
 
-// Like `new_plan`, but also uses the tables of the nets' pins.
+// Like `new_plan`, but calls `plan_by` with the tables of the nets' pins.
 fn plan_by_pins(alloc: Global, board: &Board) -> Result<Plan, AllocError>
     ensures { IfOk result (λ plan. IsPlanOf board.now plan) }
 {
@@ -243,7 +243,7 @@ fn plan_by_pins(alloc: Global, board: &Board) -> Result<Plan, AllocError>
     Ok(plan)
 }
 
-// Returns a plan without passes.
+// Returns a plan that has no passes.
 fn empty_plan(alloc: Global, board: &Board) -> Result<Plan, AllocError>
     ensures { IfOk result (λ plan. IsPlanOf board.now plan) }
 {

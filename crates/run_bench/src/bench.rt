@@ -35,7 +35,7 @@ impl Bench {
         })
     }
 
-    /// Returns a bench with the chain file `c`, the net file `n` and the BSDL texts of `DEVICES`.
+    /// Returns a bench with `chain` as the chain file `c`, `nets` as the net file `n`, and the BSDL texts of `DEVICES`.
     pub fn with_board(alloc: Global, chain: &str, nets: &str) -> Result<Bench, AllocError> {
         let mut bench = Bench::empty(alloc)?;
         for (name, text) in &DEVICES {
@@ -66,12 +66,12 @@ impl Bench {
         Ok(())
     }
 
-    /// Runs a command line and returns its status. Single spaces separate the words. An empty line has no words.
+    /// Runs a command line and returns the status of the run. Single spaces separate the words. An empty line has no words.
     pub fn run(&mut self, rt: &(impl Threads + Sync), line: &str) -> Result<Status, AllocError> {
         self.run_watched(rt, line, &OpenGate)
     }
 
-    /// Like `run`, but a command that shares its work among pieces calls `gate` before each item of each piece.
+    /// Like `run`, but with a gate. If the command shares its work among pieces, each piece enters the gate before each item of its work.
     pub fn run_watched(
         &mut self,
         rt: &(impl Threads + Sync),
@@ -87,7 +87,7 @@ impl Bench {
         Ok(self.run_words(rt, &words, gate))
     }
 
-    /// Like `run_watched`, but takes the words of the command line.
+    /// Like `run_watched`, but takes the command line as a list of words.
     pub fn run_words(
         &mut self,
         rt: &(impl Threads + Sync),

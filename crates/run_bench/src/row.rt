@@ -38,7 +38,7 @@ pub type Named = (&'static str, Text);
 /// A run with its expected result.
 #[derive(Clone, Copy)]
 pub struct Row {
-    /// Texts that are added to the store. A text replaces another text of the same name.
+    /// Texts that the run can read, in addition to those of the table. A text replaces another text of the same name.
     pub texts: &'static [Named],
     /// The command line. Single spaces separate its words.
     pub line: &'static str,
@@ -62,14 +62,14 @@ pub enum Trouble {
 /// A text, and the expected result of a run that reads it.
 pub type Run = (Text, Ending<'static>);
 
-/// A command line or a log, and the expected result of its run.
+/// A command line or a log, and the expected result of the run with it.
 pub type Line = (&'static str, Ending<'static>);
 
 /// A piece of a BSDL text, the text that replaces it, and the refusal line for the changed text, without the name of the text at its
 /// beginning and the line feed at its end.
 pub type Change = (&'static str, &'static str, &'static str);
 
-/// A chain file, a net file, the names of the BSDL texts, separated by spaces, and the refusal line.
+/// A chain file, a net file, the names of the BSDL texts, and the expected refusal line. Single spaces separate the names.
 pub type Case = (&'static str, &'static str, &'static str, &'static str);
 
 /// The rows of a table.
@@ -87,7 +87,7 @@ pub enum Rows {
     Texts(&'static str, &'static str, &'static [Run]),
     /// A BSDL text, and changes to it. The command `device` must refuse the text after each change.
     Devices(&'static str, &'static [Change]),
-    /// Boards. Every command that reads a board must refuse the board with the same line.
+    /// Texts that denote no board. Each command that reads a board must refuse them with the line of the case.
     Boards(&'static [Case]),
     /// Command lines that are not valid. The first read would fail, so the rows show that btest reads nothing.
     NoCommands(&'static [&'static str]),
@@ -148,7 +148,7 @@ pub fn expect(table: &'static str, row: usize, holds: bool) -> Result<(), RowFau
     }
 }
 
-/// Runs each row of each table. Returns an error for the first row with an unexpected result.
+/// Runs each row of each table, up to the first row with an unexpected result. Returns an error for this row.
 pub fn tables_hold(
     rt: &(impl Threads + Sync),
     alloc: Global,

@@ -9,11 +9,11 @@ pub enum Text {
     Plain(&'static str),
     /// These bytes, which may be invalid UTF-8.
     Bytes(&'static [u8]),
-    /// A text with replaced pieces. Each edit has a piece and its replacement, and the edits apply in turn.
+    /// A text after edits, which apply in turn. An edit has a piece and its replacement, and it replaces every occurrence of the piece.
     Edited(&'static str, &'static [(&'static str, &'static str)]),
     /// A piece that is repeated this many times.
     Repeated(&'static str, usize),
-    /// A text, the number of first lines to take from it, and the text that follows these lines.
+    /// The first lines of a text, followed by another text. The number is the number of lines to take.
     Front(&'static str, usize, &'static str),
     /// The first lines of a text, followed by a head, a piece that is repeated, and a tail.
     Filled {
@@ -42,7 +42,7 @@ pub enum Text {
         /// The number after the last number.
         end: u32,
     },
-    /// The BSDL text of a device with this name, whose only cells are this many internal cells.
+    /// The BSDL text of a device with this name. The device has only internal cells, and this is their number, which must be at least 1.
     Cells(&'static str, u32),
 }
 

@@ -343,7 +343,7 @@ static DEVICES: [(InputFault, &str, &str); 16] = [
         "",
         "out of memory",
     ),
-    // The command has one BSDL text, so the line does not name the second.
+    // The fault is in a second BSDL text, but the command has only one, so the line names no text.
     (
         InputFault::Lex {
             text: 1,
@@ -354,7 +354,8 @@ static DEVICES: [(InputFault, &str, &str); 16] = [
     ),
 ];
 
-// The line names the text that has the fault. The command has two texts, so the line does not name a third.
+// Faults of a command with two BSDL texts. The line names the text that has the fault. A fault of a third text, which the command does not
+// have, gives a line that names no text.
 static SECOND_TEXTS: [(InputFault, &str, &str); 7] = [
     (
         InputFault::Lex {
@@ -414,7 +415,7 @@ static SECOND_TEXTS: [(InputFault, &str, &str); 7] = [
     ),
 ];
 
-// The refusal line for missing rows ends with the number of rows that the log must have. The fault does not have this number.
+// The refusal line for missing rows ends with the number of rows that the log must have, here `ROWS`. The fault does not have this number.
 static LOGS: [(LogFault, &str, &str, &str); 5] = [
     (LogFault::Digit(5), "g ", "line 5: digit not allowed", ""),
     (LogFault::Length(5), "g ", "line 5: wrong length", ""),
@@ -423,7 +424,8 @@ static LOGS: [(LogFault, &str, &str, &str); 5] = [
     (LogFault::Memory(AllocError), "", "out of memory", ""),
 ];
 
-// Only the refusal line for missing rows names the board. Any other line has the number of a line of the text.
+// The refusal line for missing rows has the number of the board. The lines for lack of memory have no number. Any other line has the number
+// of a line of the text.
 static BATCHES: [(BatchFault, &str, &str, &str); 8] = [
     (BatchFault::Start(5), "g ", "line 5: no board yet", ""),
     (BatchFault::Title(5), "g ", "line 5: board not allowed", ""),

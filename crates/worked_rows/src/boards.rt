@@ -42,7 +42,7 @@ const CHAINS: [Case; 10] = [
         "drv rcv",
         "c line 3: supply net not there\n",
     ),
-    // A LINK line must not name a part of the chain, either.
+    // Like an INERT line, a LINK line must not name a part of the chain.
     (
         "DEVICE U1 DRV -\nDEVICE U2 RCV -\nLINK U1 1 2",
         NETS,
@@ -93,7 +93,7 @@ const NET_FILES: [Case; 15] = [
     (CHAIN, "net N1 U1.1", "drv rcv", "n line 1: no statement\n"),
     (CHAIN, "NET", "drv rcv", "n line 1: no statement\n"),
     (CHAIN, "NET #N1 U1.1", "drv rcv", "n line 1: no statement\n"),
-    // A byte order mark.
+    // A byte order mark at the beginning of the net file.
     (
         CHAIN,
         "\u{feff}NET N1 U1.1",
@@ -142,7 +142,7 @@ const LINKS_AND_PULLS: [Case; 8] = [
         "drv rcv",
         "c line 3 word 4: link pin not in a net\n",
     ),
-    // Joined nets are one net. A net must not be pulled twice. If one of the joined nets is a supply, the whole net is a supply.
+    // Nets that a LINK line joins are one net, so only one PULL line may name them. If one of them is a supply, the joined net is a supply.
     (
         "DEVICE U1 DRV -\nDEVICE U2 RCV -\nLINK R1 1 2\nPULL N1A 1\nPULL N1B 1",
         LINK_NETS,
@@ -169,7 +169,7 @@ const LINKS_AND_PULLS: [Case; 8] = [
         "drv rcv",
         "c line 4: supply net not there\n",
     ),
-    // Without a LINK line, a pin must not be in two nets.
+    // Two nets that no LINK line joins must not name the same pin.
     (
         CHAIN,
         "NET N1A U1.1 R1.1\nNET N1B R1.2 U2.1 U1.1\nNET N2 U1.2 U2.2",
@@ -277,7 +277,7 @@ const MANY_PINS: [Run; 3] = [
             "SIR 2 TDI (3) TDO (1) MASK (3);\nSDR 1 TDI (0);\nSIR 2 TDI (3) TDO (1) MASK (3);\n",
         ),
     ),
-    // A pin in two nets counts once, too.
+    // A pin in two nets also counts once, so btest reports the fault of this pin and not the limit.
     (
         Numbered {
             head: "NET M X.0\nNET N",

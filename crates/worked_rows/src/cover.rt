@@ -1,5 +1,6 @@
-// Rows for the command `cover`, which lists the nets, pins and pairs of nets that no safe setting tests. A setting is a set of enabled
-// controls. A safe setting enables at most one driver of each net, among other rules.
+// Rows for the command `cover`. It lists the nets that are not covered, each with the reason. For the covered nets, it lists the drivers,
+// the receivers and the pairs of nets that no safe setting tests. A net is covered if some safe setting observes it. A setting is a set of
+// enabled controls. A safe setting enables at most one driver of each net, among other rules.
 use run_bench::Text::{Edited, Numbered, Plain};
 use run_bench::{CHAIN, Ending, NETS, Named, RCV1, Row, RowFault, Rows, Run, Table, tables_hold};
 
@@ -99,8 +100,8 @@ const LONG_NAMES: [Row; 1] = [Row {
 
 const WITH_RAM: Named = ("n", Plain("NET N1 U1.1 U2.1 RAM.7\nNET N2 U1.2 U2.2"));
 
-// btest reports a net as DARK if the net has a pin of a part without a description, since this part may drive the net. An INERT line says
-// that a part does not.
+// A net is dark if it has a pin of a part with neither a description nor an INERT line, since this part may drive the net. btest reports a
+// dark net as DARK unless the reason SUPPLY or TESTPORT applies.
 const DARKENED: [Row; 5] = [
     // The chain file gives only the length of U3's instruction register, so U3 may drive the net.
     Row {
@@ -156,7 +157,8 @@ const DARKENED: [Row; 5] = [
     },
 ];
 
-// The list has the drivers, the receivers and the pairs of nets that no safe setting tests.
+// For the covered nets, the list has the drivers and receivers that no safe setting tests, and the pairs of nets that no safe setting
+// observes together.
 const UNTESTED: [Row; 6] = [
     Row {
         texts: &[
@@ -370,7 +372,8 @@ const TWO_PINS: (&str, &str) = ("D:1", "D:1, E:2");
 
 const READ_TWICE: (&str, &str) = ("D, input, X)\"", "D, input, X), 1 (BC_1, E, input, X)\"");
 
-// A linkage pin, an input pin without an entry, and pins of modes out, inout and buffer without a driving entry.
+// Each text adds a pin E that makes the net dark: a linkage pin, an input pin without an entry, or a pin of mode out, inout or buffer
+// without a driving entry.
 const UNRULED: [Run; 5] = [
     (
         Edited(

@@ -42,7 +42,7 @@ const NO_ENTITY: Ending<'static> = Ending::Refused("c line 1: entity not given\n
 
 const NO_NUMBER: Ending<'static> = Ending::Refused("c line 1: number not allowed\n");
 
-// A row for each word of each statement.
+// A row for each word that follows the first word of a statement.
 static CHAINS: [Long; 12] = [
     ("BYPASS ", 255, " 2", ONE_PART),
     ("BYPASS U1 ", 255, "", NO_NUMBER),
@@ -81,7 +81,7 @@ static NET_FILES: [Long; 2] = [
     ),
 ];
 
-// Runs the command line of the file. The text is `head`, `count` letters and `tail`.
+// Checks a run of the file's command line. The text of the file is `head`, `count` letters and `tail`.
 fn ends_with(
     rt: &(impl Threads + Sync),
     alloc: Global,
@@ -104,7 +104,7 @@ fn ends_with(
     bench.ends(rt, file.table, row, file.line, ending)
 }
 
-// For each word, runs the command line of the file with the maximum number of letters, and then with one letter more.
+// For each word, checks a run with the maximum number of letters. Then checks that btest refuses the word with one letter more.
 fn words_have_a_limit(
     rt: &(impl Threads + Sync),
     alloc: Global,

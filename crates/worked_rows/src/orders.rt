@@ -1,4 +1,5 @@
-// Rows for texts with two faults. btest checks for the second right after the first, and must report the first.
+// Rows for texts with two faults, and rows for the order of the BSDL texts. btest checks for one of the two faults right before the other,
+// and must report the fault that it checks for first.
 use run_bench::Text::{Cells, Numbered, Plain};
 use run_bench::{
     CHAIN, Case, Ending, Line, NETS, Row, RowFault, Rows, Run, SCANS, Table, Text, tables_hold,
@@ -98,7 +99,7 @@ const ANY_ORDER: [Line; 3] = [
     ("svf c n ts rcv bi drv", Ending::Scans(SCANS)),
 ];
 
-// 256 parts, one more than a chain may have.
+// Chains of 256 parts, one more than a chain may have. btest checks first that no entity is given twice.
 const MANY_PARTS: [Run; 2] = [
     (
         Numbered {
@@ -179,7 +180,7 @@ const LIMITS: [Row; 4] = [
     },
 ];
 
-// A board that breaks a rule, and a log that is not a log of the board.
+// In the first run, the board breaks a rule, and the log is faulty, too. In the second run, the log has a wrong row and too many rows.
 const LOGS: [Row; 2] = [
     Row {
         texts: &[

@@ -35,7 +35,7 @@ const CODES: [Row; 5] = [
              SDR 5 TDI (01);\nSDR 5 TDI (02) TDO (08) MASK (18);\nSDR 5 TDI (00) TDO (10) MASK (18);\n",
         ),
     },
-    // The pass for the always-on driver starts without a control, and then adds the control of the other driver.
+    // The pass for net A's driver, which is always on, starts without a control, and then adds the control of net B's driver.
     Row {
         texts: &[
             (
@@ -159,8 +159,9 @@ const LINKED: [Row; 2] = [
     },
 ];
 
-// Boards with a pass that tests two nets at once. The first board has a pass for A and D, and then a pass for B and C. On the second board,
-// A and C have one pass. The driver of A can be enabled together with either driver of C, and the pass enables the first of these two.
+// Boards with passes that are needed only to observe two nets together. On the first board, the third pass is needed for A and D, and the
+// fourth for B and C. On the second board, the last pass is needed for A and C. The driver of A can be enabled together with either driver
+// of C, and this pass enables the driver of C that its net names first.
 const TOGETHER: [Row; 2] = [
     Row {
         texts: &[
@@ -338,7 +339,7 @@ const SAFE: [Row; 4] = [
             "SIR 2 TDI (2) TDO (1) MASK (3);\nSDR 2 TDI (0);\nSIR 2 TDI (0) TDO (1) MASK (3);\n",
         ),
     },
-    // The cell of an open-drain driver holds the disable value and not the safe value.
+    // The cell of an open-drain driver in no net holds the disable value and not the safe value.
     Row {
         texts: &[
             ("c", Plain("DEVICE U1 OWN -")),
@@ -362,7 +363,7 @@ const OWN_CONTROL: [(&str, &str); 3] = [
     ("D, input, X", "D, output2, 0, 0, 1, WEAK1"),
 ];
 
-// The cell of a bidirectional pin reads the net while another part drives the net, but not while its own part does.
+// The cell of a bidirectional pin reads the net while another part drives the net, but not while the pin itself drives it.
 const BOTH_WAYS: [Row; 2] = [
     Row {
         texts: &[
@@ -459,7 +460,8 @@ const WIDE: [Row; 2] = [
     },
 ];
 
-// One device with only internal cells may have all 65,535 bits. A part without a description adds one bit, its bypass register.
+// One device with only internal cells may have all 65,535 bits of a data scan. A part without a description adds one bit, its bypass
+// register, which is one too many.
 const WIDEST: [Row; 2] = [
     Row {
         texts: &[

@@ -35,8 +35,8 @@ returns-then-not-more g c =
 pub entries-preserved : goal.entries-preserved
 entries-preserved g c =
     subst
-        (λ all. Progress g.T.Listed.grammar comma_or_close (pieces c.args.text.now)
-        (pieces c.in_ok-more.next.now) all) (sym c.in_ok-push.ensures.items)
+    (λ all. Progress g.T.Listed.grammar comma_or_close (pieces c.args.text.now)
+    (pieces c.in_ok-more.next.now) all) (sym c.in_ok-push.ensures.items)
     (goes_further (can_group g.met.T.Listed.takes) (pieces c.args.text.now) (pieces c.entries.rest.now)
     (pieces c.in_ok-one.after.now) (pieces c.in_ok-more.next.now) c.entries.entries.items
     c.in_ok-one.one c.entries.invariant
