@@ -10,6 +10,7 @@ use crate::fault::LineFault;
 use crate::lines::{FileLine, read_lines};
 use crate::words::{is_part, is_symbol, one_of, three_of, two_of};
 use board_defs::{MOST_INSTRUCTION_BITS, Name};
+use short_lists::ShortSlice;
 use std::alloc::{AllocError, Global};
 use std::marker::Model;
 use text_lines::is_word;
@@ -104,7 +105,7 @@ pub fn chain(alloc: Global, bytes: &[u8]) -> Result<ChainFile, LineFault>
     ensures lengths { IfOk result (AllByRecursion (λ line. HasBypassLength line.statement)) }
     ensures count { IfOk result (λ file. length file ≤ length bytes.now) }
 {
-    let lines = read_lines(alloc, bytes)?;
+    let lines = read_lines(alloc, ShortSlice { items: bytes })?;
     Ok(ChainFile::of(lines))
 }
 

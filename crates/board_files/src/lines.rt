@@ -1,10 +1,11 @@
 // Reads a file line by line, up to its first faulty line.
-ghost use Rattle.std.specs.Prelude.{◌<◌, ◌≤◌, ◌^◌, ℕ, List, Result, map, length, vec_len, IfOk, Some};
+ghost use Rattle.std.specs.Prelude.{◌≤◌, ℕ, List, Result, map, length, vec_len, IfOk, Some};
 ghost use Rattle.text_lines.specs.Words.{Word};
 ghost use Rattle.board_files.specs.declared.fault.LineFault.{LineFault};
 ghost use Rattle.board_files.specs.Reading.{ReadsLines, lines_of_text};
 
 use crate::fault::LineFault;
+use short_lists::TextSlice;
 use std::alloc::Global;
 use text_lines::{first_line, words};
 
@@ -18,16 +19,15 @@ pub(crate) trait FileLine: Drop {
 }
 
 /// Returns the lines of a file, or the fault of its first faulty line. There are at most as many lines as the text has bytes.
-pub(crate) fn read_lines<L: FileLine>(alloc: Global, bytes: &[u8]) -> Result<Vec<L>, LineFault>
-    requires { length bytes.now < 2 ^ 32 }
-    ensures read { ReadsLines (λ lines. lines.items) result (lines_of_text L.read bytes.now) }
-    ensures count { IfOk result (λ lines. vec_len lines ≤ length bytes.now) }
+pub(crate) fn read_lines<L: FileLine>(alloc: Global, text: TextSlice<'_>) -> Result<Vec<L>, LineFault>
+    ensures read { ReadsLines (λ lines. lines.items) result (lines_of_text L.read text.entry.items.now) }
+    ensures count { IfOk result (λ lines. vec_len lines ≤ length text.entry.items.now) }
 {
     let mut lines = Vec::new(alloc);
-    let mut rest = Some(bytes);
+    let mut rest = Some(text.items);
     let mut number = 1usize;
-    while let Some(text) = rest {
-        let (line, after) = first_line(text);
+    while let Some(left) = rest {
+        let (line, after) = first_line(left);
         let words = words(alloc, line)?;
         if !words.is_empty() {
             lines.push(L::from_words(alloc, number as u32, &words)?)?;

@@ -10,6 +10,7 @@ ghost use Rattle.board_files.specs.NetLines.{read_pin_word, read_pins, read_net,
 use crate::fault::LineFault;
 use crate::lines::{FileLine, read_lines};
 use board_defs::{Items, Name};
+use short_lists::ShortSlice;
 use std::alloc::{AllocError, Global};
 use std::marker::Model;
 use text_lines::{cut_at, is_filled, is_word};
@@ -88,7 +89,7 @@ pub fn nets(alloc: Global, bytes: &[u8]) -> Result<NetFile, LineFault>
     ensures count { IfOk result (λ file. length file ≤ length bytes.now) }
     ensures pins { IfOk result (AllByRecursion (λ line. length line.pins + 2 ≤ length bytes.now)) }
 {
-    let lines = read_lines(alloc, bytes)?;
+    let lines = read_lines(alloc, ShortSlice { items: bytes })?;
     Ok(NetFile::of(lines))
 }
 

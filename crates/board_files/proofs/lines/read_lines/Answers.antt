@@ -14,19 +14,19 @@ overflow_cast-number g c =
     let filled : 0 < length c.in_ok-words.words.items = search rules in
     let bytes = has_bytes (λ w. w.now) c.in_ok-words.words.items c.first_line.result.0.now c.in_ok-words.ensures filled in
     let within = line_within (λ rest. rest.now) c.first_line.result.1 c.first_line.result.0.now
-    c.in-Some.text.now c.first_line.ensures.shorter c.first_line.ensures.whole in
-    let place : c.loop-rest.number + length c.in-Some.text.now
-    ≤ 1 + length c.args.bytes.now = at_some
-    (λ text. c.loop-rest.number + length text.now ≤ 1 + length c.args.bytes.now)
-    c.loop-rest.rest c.in-Some.text c.in-Some.is c.loop-rest.invariant.place in
-    let small : c.loop-rest.number < 2 ^ 32 = omega (arith, bytes, within, place, c.requires) in
+    c.in-Some.left.now c.first_line.ensures.shorter c.first_line.ensures.whole in
+    let place : c.loop-rest.number + length c.in-Some.left.now
+    ≤ 1 + length c.args.text.items.now = at_some
+    (λ text. c.loop-rest.number + length text.now ≤ 1 + length c.args.text.items.now)
+    c.loop-rest.rest c.in-Some.left c.in-Some.is c.loop-rest.invariant.place in
+    let small : c.loop-rest.number < 2 ^ 32 = omega (arith, bytes, within, place, c.args.text.short) in
     search (rules, small)
 
 pub loop-rest-preserved : goal.loop-rest-preserved
 loop-rest-preserved g c =
     let here = at_line g.L.FileLine.read c.loop-rest.number c.loop-rest.lines.items
-    (lines_of_text g.L.FileLine.read c.args.bytes.now) (option_copied c.loop-rest.rest)
-    c.in-Some.text.now c.first_line.result.0.now
+    (lines_of_text g.L.FileLine.read c.args.text.items.now) (option_copied c.loop-rest.rest)
+    c.in-Some.left.now c.first_line.result.0.now
     (lines_of (option_copied c.first_line.result.1))
     (map (λ w. w.now) c.in_ok-words.words.items) c.loop-rest.invariant.read
     (ap option_copied c.in-Some.is) c.first_line.ensures.lines c.in_ok-words.ensures in
@@ -39,9 +39,9 @@ loop-rest-preserved g c =
                 (g.L.FileLine.read c.loop-rest.number (map (λ w. w.now) c.in_ok-words.words.items))
                 (lines_from g.L.FileLine.read (c.loop-rest.number + 1)
                 (lines_of (option_copied c.first_line.result.1)))
-                (lines_of_text g.L.FileLine.read c.args.bytes.now)
+                (lines_of_text g.L.FileLine.read c.args.text.items.now)
                 (at_words g.L.FileLine.read c.loop-rest.number c.loop-rest.lines.items
-                (lines_of_text g.L.FileLine.read c.args.bytes.now)
+                (lines_of_text g.L.FileLine.read c.args.text.items.now)
                 (lines_from g.L.FileLine.read (c.loop-rest.number + 1)
                 (lines_of (option_copied c.first_line.result.1)))
                 (map (λ w. w.now) c.in_ok-words.words.items) here filled)
@@ -56,7 +56,7 @@ loop-rest-preserved g c =
             | else-not-is_empty w ↦
                 let none : length (map (λ w. w.now) c.in_ok-words.words.items) ≡ 0 = rw length-map (search rules) in
                 let same = at_blank g.L.FileLine.read c.loop-rest.number c.loop-rest.lines.items
-                (lines_of_text g.L.FileLine.read c.args.bytes.now)
+                (lines_of_text g.L.FileLine.read c.args.text.items.now)
                 (lines_from g.L.FileLine.read (c.loop-rest.number + 1)
                 (lines_of (option_copied c.first_line.result.1)))
                 (map (λ w. w.now) c.in_ok-words.words.items) here none in
@@ -69,8 +69,8 @@ loop-rest-preserved g c =
                 (lines_of (option_copied c.first_line.result.1)))) items)
           ];
       count =
-          let within = count_at (option_copied c.loop-rest.rest) c.in-Some.text.now
-          (length c.loop-rest.lines.items) (length c.args.bytes.now)
+          let within = count_at (option_copied c.loop-rest.rest) c.in-Some.left.now
+          (length c.loop-rest.lines.items) (length c.args.text.items.now)
           (ap option_copied c.in-Some.is) c.loop-rest.invariant.count in
           elim c.if-not-is_empty.branch [
             | then-not-is_empty+in_ok-from_words+in_ok-push w ↦
@@ -79,35 +79,35 @@ loop-rest-preserved g c =
                 let items : c.if-not-is_empty.lines.items ≡ c.loop-rest.lines.items ++ w.in_ok-from_words.field-0 ∷ [] = search rules in
                 rw (items, length_push)
                 (count_more (λ rest. rest.now) c.first_line.result.1 c.first_line.result.0.now
-                c.in-Some.text.now (length c.loop-rest.lines.items)
-                (length c.args.bytes.now) c.first_line.ensures.shorter
+                c.in-Some.left.now (length c.loop-rest.lines.items)
+                (length c.args.text.items.now) c.first_line.ensures.shorter
                 c.first_line.ensures.whole filled within)
             | else-not-is_empty w ↦
                 let items : c.if-not-is_empty.lines.items ≡ c.loop-rest.lines.items = search rules in
                 rw items
                 (count_same (λ rest. rest.now) c.first_line.result.1 c.first_line.result.0.now
-                c.in-Some.text.now (length c.loop-rest.lines.items)
-                (length c.args.bytes.now) c.first_line.ensures.shorter within)
+                c.in-Some.left.now (length c.loop-rest.lines.items)
+                (length c.args.text.items.now) c.first_line.ensures.shorter within)
           ];
       place =
           next_place (λ rest. rest.now) c.first_line.result.1 c.first_line.result.0.now
-          c.in-Some.text.now c.loop-rest.number (length c.args.bytes.now)
+          c.in-Some.left.now c.loop-rest.number (length c.args.text.items.now)
           c.first_line.ensures.shorter
-          (at_some (λ text. c.loop-rest.number + length text.now ≤ 1 + length c.args.bytes.now)
-          c.loop-rest.rest c.in-Some.text c.in-Some.is c.loop-rest.invariant.place);
+          (at_some (λ text. c.loop-rest.number + length text.now ≤ 1 + length c.args.text.items.now)
+          c.loop-rest.rest c.in-Some.left c.in-Some.is c.loop-rest.invariant.place);
     }
 
 pub returns-in_err-from_words-clause-read : goal.returns-in_err-from_words-clause-read
 returns-in_err-from_words-clause-read g c =
     let here = at_line g.L.FileLine.read c.loop-rest.number c.loop-rest.lines.items
-    (lines_of_text g.L.FileLine.read c.args.bytes.now) (option_copied c.loop-rest.rest)
-    c.in-Some.text.now c.first_line.result.0.now
+    (lines_of_text g.L.FileLine.read c.args.text.items.now) (option_copied c.loop-rest.rest)
+    c.in-Some.left.now c.first_line.result.0.now
     (lines_of (option_copied c.first_line.result.1))
     (map (λ w. w.now) c.in_ok-words.words.items) c.loop-rest.invariant.read
     (ap option_copied c.in-Some.is) c.first_line.ensures.lines c.in_ok-words.ensures in
     let filled : 0 < length (map (λ w. w.now) c.in_ok-words.words.items) = rw length-map (search rules) in
     let all = at_words g.L.FileLine.read c.loop-rest.number c.loop-rest.lines.items
-    (lines_of_text g.L.FileLine.read c.args.bytes.now)
+    (lines_of_text g.L.FileLine.read c.args.text.items.now)
     (lines_from g.L.FileLine.read (c.loop-rest.number + 1)
     (lines_of (option_copied c.first_line.result.1)))
     (map (λ w. w.now) c.in_ok-words.words.items) here filled in
@@ -115,6 +115,6 @@ returns-in_err-from_words-clause-read g c =
     (g.L.FileLine.read c.loop-rest.number (map (λ w. w.now) c.in_ok-words.words.items))
     (λ v. lines_from g.L.FileLine.read (c.loop-rest.number + 1)
     (lines_of (option_copied c.first_line.result.1)) >>= (λ vs. Ok (v ∷ vs)))
-    (lines_of_text g.L.FileLine.read c.args.bytes.now) all
+    (lines_of_text g.L.FileLine.read c.args.text.items.now) all
     (rw c.deref.ensures.value at c.in_err-from_words.ensures) in
     search (rules, fails)
