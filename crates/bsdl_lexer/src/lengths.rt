@@ -8,6 +8,7 @@ ghost use Rattle.bsdl_lexer.specs.inner.Lengths.{with_digits, fraction_len, sign
 
 use crate::token::TokenKind;
 use memchr::memchr3;
+use short_lists::TextSlice;
 
 fn is_blank_byte(byte: u8) -> bool
     ensures { result ≡ is_bsdl_blank byte }
@@ -214,18 +215,17 @@ pub(crate) struct Gap {
 }
 
 /// Returns the gap at the front of `bytes`, which may be empty. `bytes` must be shorter than 2^32.
-pub(crate) fn gap_at(bytes: &[u8]) -> Gap
-    requires { length bytes.now < 2 ^ 32 }
-    ensures length { result.length ≡ gap_len false bytes.now }
-    ensures within { result.length ≤ length bytes.now }
-    ensures lines { result.lines ≡ line_feeds (take result.length bytes.now) }
+pub(crate) fn gap_at(text: TextSlice<'_>) -> Gap
+    ensures length { result.length ≡ gap_len false text.entry.items.now }
+    ensures within { result.length ≤ length text.entry.items.now }
+    ensures lines { result.lines ≡ line_feeds (take result.length text.entry.items.now) }
     ensures few { result.lines ≤ result.length }
 {
     let mut length = 0usize;
     let mut lines = 0u32;
     let mut in_comment = false;
-    while let Some(next) = gap_step(in_comment, &bytes[length..]) {
-        if bytes[length] == b'\n' {
+    while let Some(next) = gap_step(in_comment, &text.items[length..]) {
+        if text.items[length] == b'\n' {
             lines += 1;
         }
         length += 1;

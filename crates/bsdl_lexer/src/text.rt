@@ -8,6 +8,7 @@ ghost use Rattle.bsdl_lexer.specs.inner.Steps.{bad_byte, step_at, step};
 
 use crate::lengths::{gap_at, token_found};
 use crate::token::{LexFault, Token};
+use short_lists::{ShortSlice, TextSlice};
 use std::alloc::AllocError;
 
 /// The largest number of tokens that a text may have.
@@ -47,18 +48,19 @@ fn token_from(bytes: &[u8], start: usize, line: u32) -> Result<Option<Token>, Le
 /// Returns the next token at or after `place`, which is on line `line`. Returns None if only blanks
 /// and comments are left, and a fault if something else comes before the next token. `bytes` must
 /// be shorter than 2^32, `place` must be at most its length, and `line` at most `1 + place`.
-fn next_token(bytes: &[u8], place: usize, line: u32) -> Result<Option<Token>, LexFault>
-    requires short { length bytes.now < 2 ^ 32 }
-    requires within { place ≤ length bytes.now }
+fn next_token(text: TextSlice<'_>, place: usize, line: u32) -> Result<Option<Token>, LexFault>
+    requires within { place ≤ length text.items.now }
     requires few { line ≤ 1 + place }
-    ensures { result ≡ step bytes.now place line }
+    ensures { result ≡ step text.entry.items.now place line }
 {
-    let gap = gap_at(&bytes[place..]);
+    let gap = gap_at(ShortSlice {
+        items: &text.items[place..],
+    });
     let start = place + gap.length;
-    if start == bytes.len() {
+    if start == text.items.len() {
         return Ok(None);
     }
-    token_from(&bytes[start..], start, line + gap.lines)
+    token_from(&text.items[start..], start, line + gap.lines)
 }
 
 fn is_full(tokens: &[Token]) -> bool
@@ -78,15 +80,15 @@ fn add(out: &mut Vec<Token>, token: Token) -> Result<(), LexFault>
     }
 }
 
-fn add_tokens(bytes: &[u8], out: &mut Vec<Token>) -> Result<(), LexFault>
-    requires short { length bytes.now < 2 ^ 32 }
-    requires empty { out.old.items ≡ [] }
-    ensures answer { Gives lex_told (λ done. done) (IsLexAnswer bytes.now out.new.items) result }
-    ensures first { AreFirst bytes.now out.new.items }
+fn add_tokens(text: TextSlice<'_>, out: &mut Vec<Token>) -> Result<(), LexFault>
+    requires { out.old.items ≡ [] }
+    ensures answer { Gives lex_told (λ done. done)
+        (IsLexAnswer text.entry.items.now out.new.items) result }
+    ensures first { AreFirst text.entry.items.now out.new.items }
 {
     let mut place = 0usize;
     let mut line = 1u32;
-    while let Some(token) = next_token(bytes, place, line)? {
+    while let Some(token) = next_token(text, place, line)? {
         if is_full(out) {
             return Err(LexFault::TooMany(token.line));
         }
@@ -114,5 +116,5 @@ pub fn lex(bytes: &[u8], out: &mut Vec<Token>) -> Result<(), LexFault>
         → IsLexAnswer bytes.now tokens other → (tokens ≡ out.new.items) × (other ≡ answer)) result }
     ensures first { AreFirst bytes.now out.new.items }
 {
-    add_tokens(bytes, out)
+    add_tokens(ShortSlice { items: bytes }, out)
 }

@@ -5,11 +5,11 @@ use Rattle.bsdl_lexer.proofs.lengths.gap_at.Given as goal
 
 abbrev pub invariant-loop-next : goal.invariant-loop-next
 invariant-loop-next l = record {
-  within : l.length ≤ length l.bytes;
-  rest : gap_len false l.bytes ≡ l.length + gap_len l.in_comment (drop l.length l.bytes);
-  counted : l.lines ≡ line_feeds (take l.length l.bytes);
+  within : l.length ≤ length l.text.items.now;
+  rest : gap_len false l.text.items.now ≡ l.length + gap_len l.in_comment (drop l.length l.text.items.now);
+  counted : l.lines ≡ line_feeds (take l.length l.text.items.now);
   few : l.lines ≤ l.length;
 }
 
 abbrev pub decreases-loop-next : goal.decreases-loop-next
-decreases-loop-next l = length l.bytes - l.length
+decreases-loop-next l = length l.text.items.now - l.length
