@@ -16,6 +16,7 @@ use crate::entity::Entity;
 use crate::fault::ParseFault;
 use crate::stop::Stop;
 use bsdl_lexer::Token;
+use short_lists::{ShortSlice, TextSlice};
 use std::alloc::Global;
 
 fn count_line_feeds(bytes: &[u8]) -> usize
@@ -26,11 +27,10 @@ fn count_line_feeds(bytes: &[u8]) -> usize
 
 /// Returns the line of the text's last byte, or 1 for an empty text. The text must be shorter than
 /// 2^32 bytes.
-fn last_line_of(text: &[u8]) -> u32
-    requires { length text.now < 2 ^ 32 }
-    ensures { result ≡ last_line text.now }
+fn last_line_of(text: TextSlice<'_>) -> u32
+    ensures { result ≡ last_line text.entry.items.now }
 {
-    match text {
+    match text.items {
         [] => 1,
         [front @ .., _] => 1 + count_line_feeds(front) as u32,
     }
@@ -46,13 +46,12 @@ fn fault(starts_package: bool, line: u32) -> ParseFault
     }
 }
 
-fn judge(alloc: Global, text: &[u8], tokens: &[Token]) -> Result<Entity, ParseFault>
-    requires { length text.now < 2 ^ 32 }
+fn judge(alloc: Global, text: TextSlice<'_>, tokens: &[Token]) -> Result<Entity, ParseFault>
     ensures { Gives parse_told (λ entity. entity)
-        (λ said. judged text.now (lexemes text.now tokens.now)
-        (reader_of_grammar file (lexemes text.now tokens.now)) ≡ said) result }
+        (λ said. judged text.entry.items.now (lexemes text.entry.items.now tokens.now)
+        (reader_of_grammar file (lexemes text.entry.items.now tokens.now)) ≡ said) result }
 {
-    let mut cursor = Cursor::new(alloc, text, tokens);
+    let mut cursor = Cursor::new(alloc, text.items, tokens);
     match cursor.file() {
         Ok(entity) => match cursor.front() {
             None => Ok(entity),
@@ -91,5 +90,5 @@ pub fn parse(alloc: Global, bytes: &[u8], tokens: &[Token]) -> Result<Entity, Pa
     ensures kinds { IfOk result HaveKinds }
     ensures small { IfOk result IsSmall }
 {
-    judge(alloc, bytes, tokens)
+    judge(alloc, ShortSlice { items: bytes }, tokens)
 }
