@@ -11,8 +11,8 @@ use Rattle.batch_diag.specs.declared.block.Block.{Block}
 use Rattle.batch_diag.specs.declared.fault.BatchFault.{BatchFault}
 use Rattle.batch_diag.specs.declared.fault.BatchFault.TheVariants.{Start, Title as WrongTitle, Inner, Memory}
 use Rattle.batch_diag.specs.declared.lines.Title.{Title}
-use Rattle.batch_diag.specs.declared.lines.UnreadBlock.{UnreadBlock}
-use Rattle.batch_diag.specs.declared.reader.Reading.{Reading}
+use Rattle.batch_diag.specs.declared.unread.UnreadBlock.{UnreadBlock}
+use Rattle.batch_diag.specs.declared.unread.Reading.{Reading}
 use Rattle.batch_diag.specs.Batch.{BatchAnswer, BlockLines, begins_block, is_wrong_title, start_fault, title_fault, IsOfLines, block_then, blocks_of, logs_from, onto, unless_wrong, up_to_title, batch_told}
 use Rattle.batch_diag.specs.inner.Cutting.{rows_from, blocks_at, in_block}
 use Rattle.batch_diag.specs.inner.Reading.{AreBlocksRead, lines_of_unread, said_between, said_of}

@@ -12,6 +12,7 @@ pub mod law;
 mod lines;
 mod listing;
 mod reader;
+mod unread;
 
 pub use block::Block;
 pub use diagnoser::Verdict;

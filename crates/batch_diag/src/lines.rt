@@ -3,10 +3,12 @@ ghost use Rattle.std.specs.Prelude.{◌≡◌, ◌+◌, ◌<◌, ◌≤◌, ◌^
 ghost use Rattle.text_lines.specs.Words.{words_of};
 ghost use Rattle.response_log.specs.LogRows.{holds_word, row_lines};
 ghost use Rattle.batch_diag.specs.Batch.{is_title, first_or_none, id_of, is_id, names_board, start_fault, title_fault, up_to_title, blocks_of};
-ghost use Rattle.batch_diag.specs.inner.Reading.{AreShortBlocks, lines_of_unread};
+ghost use Rattle.batch_diag.specs.inner.Reading.{lines_of_unread};
 ghost use Rattle.batch_diag.specs.inner.Cutting.{rows_from, begins_row, blocks_at, or_nothing};
 
 use crate::fault::BatchFault;
+use crate::unread::UnreadBlock;
+use short_lists::TextSlice;
 use std::alloc::{AllocError, Global};
 use text_lines::{first_line, is_blank, is_word, next_word};
 
@@ -16,14 +18,6 @@ pub struct Title<'a> {
     pub line: usize,
     pub id: &'a [u8],
     pub behind: &'a [u8],
-}
-
-/// A block whose log has yet to be read: the line number of its title, the id in the title, and the text below the title.
-#[derive(Clone, Copy)]
-pub struct UnreadBlock<'a> {
-    pub line: usize,
-    pub id: &'a [u8],
-    pub own: &'a [u8],
 }
 
 fn has_words(line: &[u8]) -> bool
@@ -104,11 +98,10 @@ fn is_wrong_title(line: &[u8]) -> bool
 }
 
 /// Returns the fault of a text's first line with words, if this line is not a title. The text must have fewer than 2^32 bytes.
-pub fn start_fault(text: &[u8]) -> Option<BatchFault>
-    requires { length text.now < 2 ^ 32 }
-    ensures { result ≡ start_fault (row_lines text.now) }
+pub fn start_fault(text: TextSlice<'_>) -> Option<BatchFault>
+    ensures { result ≡ start_fault (row_lines text.entry.items.now) }
 {
-    let mut rest = Some(text);
+    let mut rest = Some(text.items);
     let mut number = 1usize;
     while let Some(left) = rest {
         let (line, after) = first_line(left);
@@ -134,11 +127,10 @@ fn no_title(line: &[u8], number: u32) -> Option<BatchFault>
 
 /// Returns the fault of the first wrong title of a text. A title is wrong if it does not have exactly two words or its id breaks the word
 /// rule. The text must have fewer than 2^32 bytes.
-pub fn title_fault(text: &[u8]) -> Option<BatchFault>
-    requires { length text.now < 2 ^ 32 }
-    ensures { result ≡ title_fault (row_lines text.now) }
+pub fn title_fault(text: TextSlice<'_>) -> Option<BatchFault>
+    ensures { result ≡ title_fault (row_lines text.entry.items.now) }
 {
-    let mut rest = Some(text);
+    let mut rest = Some(text.items);
     let mut number = 1usize;
     while let Some(left) = rest {
         let (line, after) = first_line(left);
@@ -187,22 +179,33 @@ pub fn cut_at_title(text: &[u8], number: usize) -> (&[u8], Option<Title<'_>>)
     (text, None)
 }
 
+// Returns the block with this title and the text `own` below the title.
+fn unread_block<'a>(title: Title<'a>, own: &'a [u8]) -> UnreadBlock<'a>
+    requires { title.line + length own.now < 2 ^ 32 }
+    ensures { lines_of_unread result
+        ≡ record { id = title.entry.id.now; lines = rows_from (title.entry.line + 1) own.now } }
+{
+    UnreadBlock {
+        line: title.line,
+        id: title.id,
+        own,
+    }
+}
+
 /// Returns the blocks of a text, before their logs are read. Wrong titles begin blocks as well. The text must have fewer than 2^32 bytes.
-pub fn list_blocks(alloc: Global, text: &[u8]) -> Result<Vec<UnreadBlock<'_>>, AllocError>
-    requires { length text.now < 2 ^ 32 }
+pub fn list_blocks<'a>(
+    alloc: Global,
+    text: TextSlice<'a>,
+) -> Result<Vec<UnreadBlock<'a>>, AllocError>
     ensures blocks { IfOk result
-        (λ unread. blocks_of (row_lines text.now) ≡ map lines_of_unread unread.items) }
-    ensures short { IfOk result (λ unread. AreShortBlocks unread.items) }
+        (λ unread. blocks_of (row_lines text.entry.items.now) ≡ map lines_of_unread unread.items) }
+    ensures few { IfOk result (λ unread. length unread.items < 2 ^ 32) }
 {
     let mut unread = Vec::new(alloc);
-    let mut next = cut_at_title(text, 1).1;
+    let mut next = cut_at_title(text.items, 1).1;
     while let Some(title) = next {
         let (own, following) = cut_at_title(title.behind, title.line + 1);
-        unread.push(UnreadBlock {
-            line: title.line,
-            id: title.id,
-            own,
-        })?;
+        unread.push(unread_block(title, own))?;
         next = following;
     }
     Ok(unread)

@@ -4,13 +4,15 @@ ghost use Rattle.answers.specs.Gives.{Gives};
 ghost use Rattle.response_log.specs.LogRows.{HasSize, rows_of_lines};
 ghost use Rattle.batch_diag.specs.Batch.{IsOfLines, blocks_of_text, batch_told};
 ghost use Rattle.batch_diag.specs.inner.Cutting.{IsUpTo, in_block, moved_inner, rows_from};
-ghost use Rattle.batch_diag.specs.inner.Reading.{AreShortBlocks, AreBlocksRead, said_between, said_of};
+ghost use Rattle.batch_diag.specs.inner.Reading.{AreBlocksRead, said_between, said_of};
 
 use crate::block::Block;
 use crate::fault::BatchFault;
-use crate::lines::{UnreadBlock, list_blocks, start_fault, title_fault};
+use crate::lines::{list_blocks, start_fault, title_fault};
+use crate::unread::{Reading, UnreadBlock};
 use board_defs::Name;
 use response_log::{Log, LogFault, log};
+use short_lists::{ShortSlice, TextSlice};
 use side_by_side::{Piece, Workers, in_pieces};
 use std::alloc::Global;
 use std::thread::Threads;
@@ -29,7 +31,7 @@ pub fn blocks(alloc: Global, bytes: &[u8], rows: u64, len: u32) -> Result<Vec<Bl
     ensures size { IfOk result (λ blocks. All (λ block. HasSize rows len block.log) blocks.items) }
     ensures inner { MatchResult result (λ _. Unit {0}) IsOfLines }
 {
-    let reading = match reading_of(alloc, bytes, rows, len) {
+    let reading = match reading_of(alloc, ShortSlice { items: bytes }, rows, len) {
         Ok(reading) => reading,
         Err(fault) => return Err(fault),
     };
@@ -43,30 +45,21 @@ pub fn blocks(alloc: Global, bytes: &[u8], rows: u64, len: u32) -> Result<Vec<Bl
 pub fn blocks_by<R: Threads + Sync>(
     rt: &R,
     alloc: Global,
-    bytes: &[u8],
+    text: TextSlice<'_>,
     rows: u64,
     len: u32,
     workers: Workers,
 ) -> Result<Vec<Block>, BatchFault>
-    requires { length bytes.now < 2 ^ 32 }
     ensures read { Gives batch_told (λ blocks. blocks.items)
-        (λ said. blocks_of_text bytes.now rows len ≡ said) result }
+        (λ said. blocks_of_text text.entry.items.now rows len ≡ said) result }
     ensures size { IfOk result (λ blocks. All (λ block. HasSize rows len block.log) blocks.items) }
     ensures inner { MatchResult result (λ _. Unit {0}) IsOfLines }
 {
-    let reading = match reading_of(alloc, bytes, rows, len) {
+    let reading = match reading_of(alloc, text, rows, len) {
         Ok(reading) => reading,
         Err(fault) => return Err(fault),
     };
     read_pieces(rt, alloc, &reading, workers)
-}
-
-/// Blocks whose logs have yet to be read, with the number of rows of each log and the number of bits in each row.
-#[derive(Drop)]
-pub struct Reading<'a> {
-    pub unread: Vec<UnreadBlock<'a>>,
-    pub rows: u64,
-    pub len: u32,
 }
 
 // Returns the number of blocks.
@@ -76,46 +69,47 @@ fn count(reading: &Reading<'_>) -> usize
     reading.unread.len()
 }
 
-// Returns the blocks of a text before their logs are read, or the fault of a line before the first title or of a wrong title. The text must
-// have fewer than 2^32 bytes.
-fn reading_of(alloc: Global, bytes: &[u8], rows: u64, len: u32) -> Result<Reading<'_>, BatchFault>
-    requires { length bytes.now < 2 ^ 32 }
-    ensures said { IfOk result (λ reading. blocks_of_text bytes.now rows len ≡ said_of reading) }
+// Returns the blocks of a text before their logs are read, or the fault of a line before the first title or of a wrong title.
+fn reading_of<'a>(
+    alloc: Global,
+    text: TextSlice<'a>,
+    rows: u64,
+    len: u32,
+) -> Result<Reading<'a>, BatchFault>
+    ensures said { IfOk result
+        (λ reading. blocks_of_text text.entry.items.now rows len ≡ said_of reading) }
     ensures fault { IfErr result
-        (λ fault. IfSome (batch_told fault) (λ f. blocks_of_text bytes.now rows len ≡ Err f)) }
+        (λ fault. IfSome (batch_told fault)
+        (λ f. blocks_of_text text.entry.items.now rows len ≡ Err f)) }
     ensures size { IfOk result (λ reading. (reading.rows ≡ rows) × (reading.len ≡ len)) }
-    ensures short { IfOk result (λ reading. AreShortBlocks reading.unread.items) }
     ensures inner { MatchResult result (λ _. Unit {0}) IsOfLines }
 {
-    if let Some(fault) = start_fault(bytes) {
+    if let Some(fault) = start_fault(text) {
         return Err(fault);
     }
-    if let Some(fault) = title_fault(bytes) {
+    if let Some(fault) = title_fault(text) {
         return Err(fault);
     }
-    let unread = list_blocks(alloc, bytes)?;
+    let unread = list_blocks(alloc, text)?;
     Ok(Reading { unread, rows, len })
 }
 
-// Returns block `i`, before its log is read. `i` must be below the number of blocks, and the blocks must satisfy `AreShortBlocks`.
+// Returns block `i`, before its log is read. `i` must be below the number of blocks.
 fn unread_at<'a>(reading: &Reading<'a>, i: usize) -> UnreadBlock<'a>
-    requires short { AreShortBlocks reading.now.unread.items }
-    requires block { i < length reading.now.unread.items }
-    ensures at { slice_get reading.now.unread.items i ≡ Some result }
-    ensures short { result.line + length result.own.now < 2 ^ 32 }
+    requires { i < length reading.now.unread.items }
+    ensures { slice_get reading.now.unread.items i ≡ Some result }
 {
     reading.unread[i]
 }
 
 // Returns the blocks `first..end`, or the fault of the first of these blocks whose lines are not a log. `first..end` must be a range of the
-// blocks, which must satisfy `AreShortBlocks`.
+// blocks.
 fn read_between(
     alloc: Global,
     reading: &Reading<'_>,
     first: usize,
     end: usize,
 ) -> Result<Vec<Block>, BatchFault>
-    requires short { AreShortBlocks reading.now.unread.items }
     requires order { first ≤ end }
     requires within { end ≤ length reading.now.unread.items }
     ensures { AreBlocksRead (λ v. v.items) reading.now.rows reading.now.len
@@ -133,21 +127,20 @@ fn read_between(
     Ok(found)
 }
 
-// Reads all blocks in as many pieces as there are workers and returns them. Returns the fault of the first block whose lines are not a log, if there is one.
+// Reads all blocks in as many pieces as there are workers and returns them. Returns the fault of the first block whose lines are not a
+// log, if there is one.
 fn read_pieces<R: Threads + Sync>(
     rt: &R,
     alloc: Global,
     reading: &Reading<'_>,
     workers: Workers,
 ) -> Result<Vec<Block>, BatchFault>
-    requires { AreShortBlocks reading.now.unread.items }
     ensures { AreBlocksRead (λ v. v.items) reading.now.rows reading.now.len (said_of reading.now)
         result }
 {
     let count = count(reading) as u64;
     let read = move |piece: Piece| -> Result<Vec<Block>, BatchFault>
-        requires { AreShortBlocks reading.now.unread.items × (piece.first ≤ piece.end)
-            × (piece.end ≤ length reading.now.unread.items) }
+        requires { (piece.first ≤ piece.end) × (piece.end ≤ length reading.now.unread.items) }
         ensures { AreBlocksRead (λ v. v.items) reading.entry.now.rows reading.entry.now.len
             (said_between reading.entry.now piece.first piece.end) result }
     { read_between(alloc, reading, piece.first as usize, piece.end as usize) };
@@ -163,7 +156,6 @@ fn read_block(
     len: u32,
     board: u32,
 ) -> Result<Block, BatchFault>
-    requires { unread.line + length unread.own.now < 2 ^ 32 }
     ensures id { IfOk result (λ block. block.id ≡ unread.entry.id.now) }
     ensures log { Gives batch_told (λ block. block.log)
         (λ said. in_block board
@@ -172,33 +164,34 @@ fn read_block(
     ensures size { IfOk result (λ block. HasSize rows len block.log) }
     ensures inner { MatchResult result (λ _. Unit {0}) IsOfLines }
 {
-    let log = read_log(alloc, unread.own, rows, len, unread.line as u32, board)?;
+    let log = read_log(alloc, unread, rows, len, board)?;
     Ok(Block {
         id: Name::of(alloc, unread.id)?,
         log,
     })
 }
 
-// Reads the log of block `board` from the text `own` below the block's title. `before` lines of the whole text come before `own`. The sum
-// of `before` and the length of `own` must be less than 2^32.
+// Reads the log of a block from the text below the block's title. `board` is the number of the block, counted from 1.
 fn read_log(
     alloc: Global,
-    own: &[u8],
+    unread: UnreadBlock<'_>,
     rows: u64,
     len: u32,
-    before: u32,
     board: u32,
 ) -> Result<Log, BatchFault>
-    requires { before + length own.now < 2 ^ 32 }
     ensures log { Gives batch_told (λ log. log)
-        (λ said. in_block board (rows_of_lines rows len (rows_from (before + 1) own.now)) ≡ said)
-        result }
+        (λ said. in_block board
+        (rows_of_lines rows len (rows_from (unread.entry.line + 1) unread.entry.own.now))
+        ≡ said) result }
     ensures size { IfOk result (HasSize rows len) }
     ensures inner { MatchResult result (λ _. Unit {0}) IsOfLines }
 {
-    match log(alloc, own, rows, len) {
+    match log(alloc, unread.own, rows, len) {
         Ok(log) => Ok(log),
-        Err(fault) => Err(inner(board, before, own.len() as u32, fault)),
+        Err(fault) => {
+            let last = unread.own.len() as u32;
+            Err(inner(board, unread.line as u32, last, fault))
+        }
     }
 }
 

@@ -7,7 +7,7 @@ ghost use Rattle.btest_cli.specs.inner.Reads.{AreAll, IsOne, Reads};
 use crate::failure::Unread;
 use bt_base::{FetchFault, Store};
 use command_line::{BsdlNames, FileName};
-use commands::{ShortText, ShortTexts};
+use short_lists::{ShortText, ShortTexts};
 use std::alloc::Global;
 
 // The largest number of bytes of a chain file, a net file or a BSDL text.

@@ -23,15 +23,16 @@ use board_defs::{Board, Device};
 use board_files::{ChainFile, ChainStatement, LineFault, NetFile, nets};
 use series_parts::law::unlinked_files;
 use series_parts::{Joined, LinkFault, join};
+use short_lists::{ShortSlice, TextList, TextSlice};
 use std::alloc::Global;
 
 // Returns the net file that a text contains, or the fault of its first faulty line. The text must
 // have fewer than 2^32 bytes.
-fn net_file(alloc: Global, text: &[u8]) -> Result<NetFile, InputFault>
-    requires { length text.now < 2 ^ 32 }
-    ensures { Gives input_told (λ file. file) (Is (in_file Nets (net_lines text.now))) result }
+fn net_file(alloc: Global, text: TextSlice<'_>) -> Result<NetFile, InputFault>
+    ensures { Gives input_told (λ file. file) (Is (in_file Nets (net_lines text.entry.items.now)))
+        result }
 {
-    match nets(alloc, text) {
+    match nets(alloc, text.items) {
         Ok(file) => Ok(file),
         Err(LineFault::Memory(e)) => Err(InputFault::Memory(e)),
         Err(fault) => Err(InputFault::Nets(fault)),
@@ -134,12 +135,10 @@ fn files_board(
     alloc: Global,
     chain: &ChainFile,
     nets: NetFile,
-    bsdl: &[Vec<u8>],
+    bsdl: TextList<'_>,
 ) -> Result<Board, InputFault>
-    requires each { All (λ text. length text.items < 2 ^ 32) bsdl.now }
-    requires count { length bsdl.now < 2 ^ 32 }
     ensures { Gives input_told (λ board. board)
-        (IsFilesBoard chain.now nets (map (λ text. text.items) bsdl.now)) result }
+        (IsFilesBoard chain.now nets (map (λ text. text.items) bsdl.entry.items.now)) result }
 {
     match devices(alloc, chain, bsdl) {
         Ok(devices) => joined_board(alloc, chain, nets, devices),
@@ -165,12 +164,12 @@ pub fn read_board(
     ensures { Gives input_told (λ board. board)
         (IsBoardRead chain.now nets.now (map (λ text. text.items) bsdl.now)) result }
 {
-    let chain = match chain_file(alloc, chain) {
+    let chain = match chain_file(alloc, ShortSlice { items: chain }) {
         Ok(chain) => chain,
         Err(fault) => return Err(fault),
     };
-    match net_file(alloc, nets) {
-        Ok(nets) => files_board(alloc, &chain, nets, bsdl),
+    match net_file(alloc, ShortSlice { items: nets }) {
+        Ok(nets) => files_board(alloc, &chain, nets, TextList { items: bsdl }),
         Err(fault) => Err(fault),
     }
 }

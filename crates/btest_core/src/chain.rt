@@ -16,15 +16,16 @@ use crate::fault::InputFault;
 use board_build::parts_of_chain;
 use board_defs::{Device, Part};
 use board_files::{ChainFile, LineFault, chain};
+use short_lists::{ShortSlice, TextList, TextSlice};
 use std::alloc::{AllocError, Global};
 
 /// Returns the chain file that a text contains, or the fault of its first faulty line. The text
 /// must have fewer than 2^32 bytes.
-pub(crate) fn chain_file(alloc: Global, text: &[u8]) -> Result<ChainFile, InputFault>
-    requires { length text.now < 2 ^ 32 }
-    ensures { Gives input_told (λ file. file) (Is (in_file Chain (chain_lines text.now))) result }
+pub(crate) fn chain_file(alloc: Global, text: TextSlice<'_>) -> Result<ChainFile, InputFault>
+    ensures { Gives input_told (λ file. file)
+        (Is (in_file Chain (chain_lines text.entry.items.now))) result }
 {
-    match chain(alloc, text) {
+    match chain(alloc, text.items) {
         Ok(file) => Ok(file),
         Err(LineFault::Memory(e)) => Err(InputFault::Memory(e)),
         Err(fault) => Err(InputFault::Chain(fault)),
@@ -61,11 +62,9 @@ fn lengths_of(alloc: Global, file: &ChainFile, devices: Vec<Device>) -> Result<V
 // Returns the instruction lengths of the parts in a chain file, or the first fault of the BSDL
 // texts, the chain and its devices. Each text must have fewer than 2^32 bytes, and there must be
 // fewer than 2^32 texts.
-fn file_lengths(alloc: Global, file: &ChainFile, bsdl: &[Vec<u8>]) -> Result<Vec<u32>, InputFault>
-    requires each { All (λ text. length text.items < 2 ^ 32) bsdl.now }
-    requires count { length bsdl.now < 2 ^ 32 }
+fn file_lengths(alloc: Global, file: &ChainFile, bsdl: TextList<'_>) -> Result<Vec<u32>, InputFault>
     ensures read { Gives input_told (λ lengths. lengths.items)
-        (AreFileLengths file.now (map (λ text. text.items) bsdl.now)) result }
+        (AreFileLengths file.now (map (λ text. text.items) bsdl.entry.items.now)) result }
     ensures bounds { IfOk result (λ lengths. AreLengths lengths.items) }
 {
     match devices(alloc, file, bsdl) {
@@ -89,8 +88,8 @@ pub fn read_chain(alloc: Global, chain: &[u8], bsdl: &[Vec<u8>]) -> Result<Vec<u
         (AreChainLengths chain.now (map (λ text. text.items) bsdl.now)) result }
     ensures bounds { IfOk result (λ lengths. AreLengths lengths.items) }
 {
-    match chain_file(alloc, chain) {
-        Ok(file) => file_lengths(alloc, &file, bsdl),
+    match chain_file(alloc, ShortSlice { items: chain }) {
+        Ok(file) => file_lengths(alloc, &file, TextList { items: bsdl }),
         Err(fault) => Err(fault),
     }
 }

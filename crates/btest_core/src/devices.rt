@@ -1,5 +1,5 @@
 // The devices of a chain.
-ghost use Rattle.std.specs.Prelude.{◌≡◌, ◌↔◌, ℕ, ◌<◌, ◌^◌, All, IfOk, IfSome, IsTrue, Some, length, map, vec_len, zip, option_copied, option_map, slice_get};
+ghost use Rattle.std.specs.Prelude.{◌≡◌, ◌↔◌, ℕ, ◌<◌, All, IfOk, IfSome, IsTrue, Some, length, map, vec_len, zip, option_copied, option_map, slice_get};
 ghost use Rattle.std.specs.List.{AllByRecursion, filter_map};
 ghost use Rattle.board_lines.specs.ChainParts.{IsChain};
 ghost use Rattle.board_lines.specs.Names.{named};
@@ -20,15 +20,15 @@ use board_defs::Device;
 use board_files::{ChainFile, ChainLine, ChainStatement};
 use bsdl_parser::Entity;
 use device_check::{DeviceFault, device};
+use short_lists::{ShortSlice, TextList, TextSlice};
 use std::alloc::{AllocError, Global};
 
 /// Returns the device that a BSDL text describes in its default package, or the text's first fault.
 /// The number of the text in the fault is 0. The text must have fewer than 2^32 bytes.
-pub fn read_device(alloc: Global, bytes: &[u8]) -> Result<Device, InputFault>
-    requires { length bytes.now < 2 ^ 32 }
-    ensures { Gives input_told (λ device. device) (IsDeviceText bytes.now) result }
+pub fn read_device(alloc: Global, text: TextSlice<'_>) -> Result<Device, InputFault>
+    ensures { Gives input_told (λ device. device) (IsDeviceText text.entry.items.now) result }
 {
-    match read_entity(alloc, bytes, 0) {
+    match read_entity(alloc, text.items, 0) {
         Ok(entity) => device_in(alloc, &entity, 0, None),
         Err(fault) => Err(fault),
     }
@@ -209,16 +209,19 @@ fn zipped<'a>(
 
 // Returns the number of the text that each DEVICE line selects, in the order of the lines, or the
 // first fault of the chain. There must be fewer than 2^32 entities.
-fn numbers(alloc: Global, file: &ChainFile, entities: &[Entity]) -> Result<Vec<u32>, InputFault>
-    requires { length entities.now < 2 ^ 32 }
+fn numbers(
+    alloc: Global,
+    file: &ChainFile,
+    entities: ShortSlice<'_, Entity>,
+) -> Result<Vec<u32>, InputFault>
     ensures numbers { Gives input_told (λ numbers. numbers.items)
-        (Is (in_board (selection file.now entities.now))) result }
+        (Is (in_board (selection file.now entities.entry.items.now))) result }
     ensures chain { IfOk result (λ numbers. IsChain file.now) }
     ensures count { IfOk result (λ numbers. vec_len numbers ≡ length (named EntityName file.now)) }
     ensures within { IfOk result
-        (λ numbers. All (λ number. number < length entities.now) numbers.items) }
+        (λ numbers. All (λ number. number < length entities.entry.items.now) numbers.items) }
 {
-    match select(alloc, file, entities) {
+    match select(alloc, file, entities.items) {
         Ok(numbers) => Ok(numbers),
         Err(BoardFault::Memory(e)) => Err(InputFault::Memory(e)),
         Err(fault) => Err(InputFault::Board(fault)),
@@ -251,17 +254,16 @@ fn devices_by(
 fn selected_devices(
     alloc: Global,
     file: &ChainFile,
-    entities: &[Entity],
+    entities: ShortSlice<'_, Entity>,
 ) -> Result<Vec<Device>, InputFault>
-    requires entities { length entities.now < 2 ^ 32 }
-    requires small { All IsSmall entities.now }
+    requires { All IsSmall entities.items.now }
     ensures devices { Gives input_told (λ devices. devices.items)
-        (AreSelected file.now entities.now) result }
+        (AreSelected file.now entities.entry.items.now) result }
     ensures chain { IfOk result (λ devices. IsChain file.now) }
     ensures number { IfOk result (λ devices. vec_len devices ≡ length (named EntityName file.now)) }
 {
     match numbers(alloc, file, entities) {
-        Ok(numbers) => devices_by(alloc, file.lines(), entities, &numbers),
+        Ok(numbers) => devices_by(alloc, file.lines(), entities.items, &numbers),
         Err(fault) => Err(fault),
     }
 }
@@ -272,17 +274,15 @@ fn selected_devices(
 pub(crate) fn devices(
     alloc: Global,
     file: &ChainFile,
-    texts: &[Vec<u8>],
+    texts: TextList<'_>,
 ) -> Result<Vec<Device>, InputFault>
-    requires each { All (λ text. length text.items < 2 ^ 32) texts.now }
-    requires count { length texts.now < 2 ^ 32 }
     ensures devices { Gives input_told (λ devices. devices.items)
-        (AreDevices file.now (map (λ text. text.items) texts.now)) result }
+        (AreDevices file.now (map (λ text. text.items) texts.entry.items.now)) result }
     ensures chain { IfOk result (λ devices. IsChain file.now) }
     ensures number { IfOk result (λ devices. vec_len devices ≡ length (named EntityName file.now)) }
 {
     match entities(alloc, texts) {
-        Ok(entities) => selected_devices(alloc, file, &entities),
+        Ok(entities) => selected_devices(alloc, file, ShortSlice { items: &entities }),
         Err(fault) => Err(fault),
     }
 }

@@ -13,6 +13,7 @@ use crate::devices::devices;
 use crate::fault::InputFault;
 use board_defs::{Code, Device};
 use board_files::{ChainFile, ChainLine, ChainStatement};
+use short_lists::{ShortSlice, TextList};
 use std::alloc::{AllocError, Global};
 
 // Returns the pattern of a device's identification code, if the device has one.
@@ -88,12 +89,10 @@ fn idents_unless_bypass(
 fn file_idents(
     alloc: Global,
     file: &ChainFile,
-    bsdl: &[Vec<u8>],
+    bsdl: TextList<'_>,
 ) -> Result<Vec<Option<Code>>, InputFault>
-    requires each { All (λ text. length text.items < 2 ^ 32) bsdl.now }
-    requires count { length bsdl.now < 2 ^ 32 }
     ensures read { Gives input_told (λ idents. idents.items)
-        (AreFileIdents file.now (map (λ text. text.items) bsdl.now)) result }
+        (AreFileIdents file.now (map (λ text. text.items) bsdl.entry.items.now)) result }
     ensures count { IfOk result
         (λ idents. (0 < length idents.items) × (length idents.items ≤ most_parts)) }
     ensures symbols { IfOk result
@@ -129,8 +128,8 @@ pub fn read_idents(
     ensures symbols { IfOk result
         (λ idents. All (λ ident. IfSome ident (λ code. length code ≡ 32)) idents.items) }
 {
-    match chain_file(alloc, chain) {
-        Ok(file) => file_idents(alloc, &file, bsdl),
+    match chain_file(alloc, ShortSlice { items: chain }) {
+        Ok(file) => file_idents(alloc, &file, TextList { items: bsdl }),
         Err(fault) => Err(fault),
     }
 }

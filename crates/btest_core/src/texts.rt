@@ -9,6 +9,7 @@ ghost use Rattle.btest_core.specs.TextsRead.{IsTextFault, IsEntityOf, AreEntitie
 use crate::fault::InputFault;
 use bsdl_lexer::{LexFault, Token, lex};
 use bsdl_parser::{Entity, ParseFault, parse};
+use short_lists::{ShortSlice, TextList, TextSlice};
 use std::alloc::Global;
 
 /// Returns the entity that a BSDL text describes, or the text's first fault. `text` is the number
@@ -19,7 +20,7 @@ pub fn read_entity(alloc: Global, bytes: &[u8], text: u32) -> Result<Entity, Inp
     ensures kinds { IfOk result HaveKinds }
     ensures small { IfOk result IsSmall }
 {
-    let tokens = tokens_of(alloc, bytes, text)?;
+    let tokens = tokens_of(alloc, ShortSlice { items: bytes }, text)?;
     match parse(alloc, bytes, &tokens) {
         Ok(entity) => Ok(entity),
         Err(ParseFault::Memory(e)) => Err(InputFault::Memory(e)),
@@ -29,13 +30,13 @@ pub fn read_entity(alloc: Global, bytes: &[u8], text: u32) -> Result<Entity, Inp
 
 // Returns the tokens of a BSDL text, or the fault of the point at which the lexer stops. The text
 // must have fewer than 2^32 bytes.
-fn tokens_of(alloc: Global, bytes: &[u8], text: u32) -> Result<Vec<Token>, InputFault>
-    requires { length bytes.now < 2 ^ 32 }
-    ensures tokens { IfOk result (λ tokens. AreTokens bytes.now tokens.items) }
-    ensures fault { IfErr result (λ fault. IfSome (input_told fault) (IsTextFault bytes.now text)) }
+fn tokens_of(alloc: Global, bytes: TextSlice<'_>, text: u32) -> Result<Vec<Token>, InputFault>
+    ensures tokens { IfOk result (λ tokens. AreTokens bytes.entry.items.now tokens.items) }
+    ensures fault { IfErr result
+        (λ fault. IfSome (input_told fault) (IsTextFault bytes.entry.items.now text)) }
 {
     let mut tokens = Vec::new(alloc);
-    match lex(bytes, &mut tokens) {
+    match lex(bytes.items, &mut tokens) {
         Ok(()) => Ok(tokens),
         Err(LexFault::Memory(e)) => Err(InputFault::Memory(e)),
         Err(fault) => Err(InputFault::Lex { text, fault }),
@@ -45,17 +46,15 @@ fn tokens_of(alloc: Global, bytes: &[u8], text: u32) -> Result<Vec<Token>, Input
 /// Returns the entities that BSDL texts describe, in the order of the texts, or the first fault of
 /// the first text that has a fault. Each text must have fewer than 2^32 bytes, and there must be
 /// fewer than 2^32 texts.
-pub(crate) fn entities(alloc: Global, texts: &[Vec<u8>]) -> Result<Vec<Entity>, InputFault>
-    requires each { All (λ text. length text.items < 2 ^ 32) texts.now }
-    requires count { length texts.now < 2 ^ 32 }
+pub(crate) fn entities(alloc: Global, texts: TextList<'_>) -> Result<Vec<Entity>, InputFault>
     ensures read { Gives input_told (λ entities. entities.items)
-        (AreEntities (map (λ text. text.items) texts.now)) result }
+        (AreEntities (map (λ text. text.items) texts.entry.items.now)) result }
     ensures kinds { IfOk result (λ entities. All HaveKinds entities.items) }
     ensures small { IfOk result (λ entities. All IsSmall entities.items) }
-    ensures number { IfOk result (λ entities. vec_len entities ≡ length texts.now) }
+    ensures number { IfOk result (λ entities. vec_len entities ≡ length texts.entry.items.now) }
 {
     let mut entities = Vec::new(alloc);
-    for (text, bytes) in texts.iter().enumerate() {
+    for (text, bytes) in texts.items.iter().enumerate() {
         let entity = match read_entity(alloc, bytes, text as u32) {
             Ok(entity) => entity,
             Err(fault) => return Err(fault),

@@ -4,6 +4,7 @@ ghost use Rattle.std.specs.Prelude.{◌<◌, ◌^◌, length};
 use crate::missed::{Missed, expect};
 use batch_diag::{BatchFault, Block, blocks, blocks_by};
 use response_log::{Log, log};
+use short_lists::ShortSlice;
 use side_by_side::Workers;
 use std::alloc::{AllocError, Global};
 use std::thread::Threads;
@@ -129,7 +130,7 @@ fn answer_in<R: Threads + Sync>(
 {
     let read = match workers {
         None => blocks(alloc, text, rows, 2),
-        Some(workers) => blocks_by(rt, alloc, text, rows, 2, workers),
+        Some(workers) => blocks_by(rt, alloc, ShortSlice { items: text }, rows, 2, workers),
     };
     match read {
         Ok(blocks) => shown(alloc, &blocks),

@@ -5,7 +5,6 @@ ghost use Rattle.commands.specs.Answers.{Answers};
 ghost use Rattle.commands.specs.Worth.{IsDeviceListing};
 ghost use Rattle.commands.specs.inner.Unput.{PutsText};
 
-use crate::texts::ShortText;
 use crate::unput::{Unput, answer_by, unput_by};
 use board_defs::Device;
 use bt_base::Sink;
@@ -13,6 +12,7 @@ use bt_bits::Line;
 use btest_core::law::inputs_keep_rules;
 use btest_core::read_device;
 use device_check::write_device;
+use short_lists::ShortText;
 use std::alloc::Global;
 
 /// Writes the listing, in its default package, of the device that a BSDL text describes. Allocates all memory before the first write.
@@ -21,7 +21,7 @@ pub fn device<K: Sink>(alloc: Global, text: &ShortText, out: &mut K) -> Result<(
         (K.shown out.old) (K.shown out.new) result }
 {
     inputs_keep_rules();
-    match read_device(alloc, text.as_bytes()) {
+    match read_device(alloc, text.as_slice()) {
         Ok(device) => {
             let put = put_listing(alloc, &device, out);
             drop(device);

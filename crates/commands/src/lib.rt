@@ -28,5 +28,5 @@ pub use ident_codes::ident;
 pub use log_batch::batch;
 pub use log_diagnosis::diagnosis;
 pub use log_groups::groups;
-pub use texts::{BoardTexts, ChainTexts, LogTexts, Request, ShortText, ShortTexts};
+pub use texts::{BoardTexts, ChainTexts, LogTexts, Request};
 pub use unput::Unput;

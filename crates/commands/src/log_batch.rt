@@ -12,12 +12,13 @@ ghost use Rattle.commands.specs.inner.Unput.{PutsText};
 
 use crate::board_test::judging_laws;
 use crate::planned::{Planned, planned_board};
-use crate::texts::{LogTexts, ShortText};
+use crate::texts::LogTexts;
 use crate::unput::{Unput, answer_by, unput_by_batch};
 use batch_diag::{Block, Verdict, blocks_by, diagnose_blocks, write_batch};
 use board_defs::Board;
 use bt_base::{Gate, Sink};
 use bt_bits::Line;
+use short_lists::ShortText;
 use side_by_side::Workers;
 use std::alloc::Global;
 use std::thread::Threads;
@@ -59,7 +60,7 @@ fn put_batch<R: Threads + Sync, K: Sink, G: Gate>(
         (K.shown out.old) (K.shown out.new) result }
 {
     let (rows, bits) = (planned.log_rows(), planned.log_bits());
-    match blocks_by(rt, alloc, text.as_bytes(), rows, bits, workers) {
+    match blocks_by(rt, alloc, text.as_slice(), rows, bits, workers) {
         Ok(blocks) => put_blocks(rt, alloc, planned, &blocks, workers, gate, out),
         Err(fault) => Err(unput_by_batch(rows, fault)),
     }

@@ -10,7 +10,7 @@ ghost use Rattle.commands.specs.inner.Unput.{PutsText};
 
 use crate::board_test::judging_laws;
 use crate::planned::{Planned, planned_board};
-use crate::texts::{LogTexts, ShortText};
+use crate::texts::LogTexts;
 use crate::unput::{Unput, answer_by, unput_by_log};
 use board_defs::Board;
 use bt_base::{Gate, Sink};
@@ -19,6 +19,7 @@ use command_line::LogFiles;
 use diagnoser::{Verdict, diagnose_logged, write_diagnosis};
 use fault_sim::LoggedTest;
 use response_log::log_of;
+use short_lists::ShortText;
 use side_by_side::Workers;
 use std::alloc::Global;
 use std::thread::Threads;
@@ -61,7 +62,7 @@ fn put_diagnosis<R: Threads + Sync, K: Sink, G: Gate>(
         (K.shown out.new) result }
 {
     let (rows, bits) = (planned.log_rows(), planned.log_bits());
-    match log_of(alloc, text.into_bytes(), rows, bits) {
+    match log_of(alloc, text, rows, bits) {
         Ok(log) => {
             let logged = planned.with_log(&log);
             put_judged(rt, alloc, &logged, workers, gate, out)

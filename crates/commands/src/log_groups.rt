@@ -11,13 +11,14 @@ ghost use Rattle.commands.specs.inner.Unput.{PutsText};
 
 use crate::board_test::test_means;
 use crate::board_walk::{Walked, walk_logs_shaped, walked_board};
-use crate::texts::{LogTexts, ShortText};
+use crate::texts::LogTexts;
 use crate::unput::{Unput, answer_by, unput_by_log};
 use board_defs::Board;
 use bt_base::Sink;
 use bt_bits::Line;
 use command_line::LogFiles;
 use response_log::{Log, log_of};
+use short_lists::ShortText;
 use std::alloc::Global;
 use walk_test::law::{groups_respond, one_set};
 use walk_test::{Group, write_groups};
@@ -61,7 +62,7 @@ fn put_groups<K: Sink>(
         (K.shown out.new) result }
 {
     let (rows, bits) = (walked.log_rows(), walked.log_bits());
-    match log_of(alloc, text.into_bytes(), rows, bits) {
+    match log_of(alloc, text, rows, bits) {
         Ok(log) => put_grouped(alloc, walked, &log, out),
         Err(fault) => Err(unput_by_log(rows, fault)),
     }

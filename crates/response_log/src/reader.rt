@@ -12,6 +12,7 @@ ghost use Rattle.response_log.specs.Kept.{AreWhole, kept_rows, text_at};
 use crate::fault::LogFault;
 use crate::kept::Log;
 use bt_bits::{HexFault, digit_count, read_digits};
+use short_lists::ShortText;
 use std::alloc::Global;
 use text_lines::{first_line, next_word};
 
@@ -27,17 +28,17 @@ pub fn log(alloc: Global, bytes: &[u8], rows: u64, len: u32) -> Result<Log, LogF
     ensures read { Gives log_told (λ log. log) (λ said. log_rows bytes.now rows len ≡ said) result }
     ensures size { IfOk result (HasSize rows len) }
 {
-    log_of(alloc, Vec::from_slice(alloc, bytes)?, rows, len)
+    let text = ShortText::of(Vec::from_slice(alloc, bytes)?);
+    log_of(alloc, text, rows, len)
 }
 
 /// Like `log`, but takes ownership of the text and writes the digits over it. Besides the text, it needs memory only for one row, and never
 /// more bytes than the text has.
-pub fn log_of(alloc: Global, mut text: Vec<u8>, rows: u64, len: u32) -> Result<Log, LogFault>
-    requires { length text.items < 2 ^ 32 }
-    ensures read { Gives log_told (λ log. log) (λ said. log_rows text.items rows len ≡ said)
-        result }
+pub fn log_of(alloc: Global, text: ShortText, rows: u64, len: u32) -> Result<Log, LogFault>
+    ensures read { Gives log_told (λ log. log) (λ said. log_rows text rows len ≡ said) result }
     ensures size { IfOk result (HasSize rows len) }
 {
+    let mut text = text.into_bytes();
     let kept = keep_rows(alloc, &mut text, rows, len)?;
     text.truncate(kept);
     Ok(Log::of(text, rows, len))

@@ -1,22 +1,18 @@
 -- The answer for all blocks of a batch or for a range of the blocks: their logs, or the first fault.
-use Rattle.std.specs.Prelude.{◌≡◌, ℕ, ◌+◌, ◌<◌, ◌^◌, List, length, map, Result, All, IfOk, MatchResult}
+use Rattle.std.specs.Prelude.{◌≡◌, ℕ, ◌+◌, List, map, Result, All, IfOk, MatchResult}
 use Rattle.answers.specs.Gives.{Gives}
 use Rattle.response_log.specs.LogRows.{HasSize}
 use Rattle.side_by_side.specs.Pieces.{items_between}
 use Rattle.batch_diag.specs.declared.block.Block.{Block}
 use Rattle.batch_diag.specs.declared.fault.BatchFault.{BatchFault}
-use Rattle.batch_diag.specs.declared.lines.UnreadBlock.{UnreadBlock}
-use Rattle.batch_diag.specs.declared.reader.Reading.{Reading}
+use Rattle.batch_diag.specs.declared.unread.UnreadBlock.{UnreadBlock}
+use Rattle.batch_diag.specs.declared.unread.Reading.{Reading}
 use Rattle.batch_diag.specs.Batch.{BatchAnswer, BlockLines, IsOfLines, batch_told, logs_from}
 use Rattle.batch_diag.specs.inner.Cutting.{rows_from}
 
 -- the id and the lines of a block whose log has yet to be read
 abbrev pub lines_of_unread : UnreadBlock → BlockLines
 lines_of_unread block = record { id = block.id.now; lines = rows_from (block.line + 1) block.own.now }
-
--- There are fewer than 2^32 blocks. For each block, the sum of its title's line number and its text's length is less than 2^32.
-abbrev pub AreShortBlocks : List UnreadBlock → Type 0
-AreShortBlocks blocks = (length blocks < 2 ^ 32) × All (λ block. block.line + length block.own.now < 2 ^ 32) blocks
 
 -- the answer for the blocks `from..to`: their logs, or the fault of the first block whose lines are not a log
 abbrev pub said_between : Reading → ℕ → ℕ → BatchAnswer

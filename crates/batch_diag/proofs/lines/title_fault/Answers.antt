@@ -13,10 +13,10 @@ overflow_cast-result c =
     let within = line_within (λ rest. rest.now) c.first_line.result.1 c.first_line.result.0.now
     c.in-Some.left.now c.first_line.ensures.shorter c.first_line.ensures.whole in
     let place : c.loop-rest.number + length c.in-Some.left.now
-    ≤ 1 + length c.args.text.now = at_some
-    (λ left. c.loop-rest.number + length left.now ≤ 1 + length c.args.text.now)
+    ≤ 1 + length c.args.text.items.now = at_some
+    (λ left. c.loop-rest.number + length left.now ≤ 1 + length c.args.text.items.now)
     c.loop-rest.rest c.in-Some.left c.in-Some.is c.loop-rest.invariant.place in
-    omega (arith, filled, within, place, c.requires)
+    omega (arith, filled, within, place, c.args.text.short)
 
 pub returns-then-is_wrong_title : goal.returns-then-is_wrong_title
 returns-then-is_wrong_title c =
@@ -42,8 +42,8 @@ loop-rest-preserved c =
           (sym c.if-is_wrong_title.ensures);
       place =
           next_place (λ rest. rest.now) c.first_line.result.1 c.first_line.result.0.now
-          c.in-Some.left.now c.loop-rest.number (length c.args.text.now)
+          c.in-Some.left.now c.loop-rest.number (length c.args.text.items.now)
           c.first_line.ensures.shorter
-          (at_some (λ left. c.loop-rest.number + length left.now ≤ 1 + length c.args.text.now)
+          (at_some (λ left. c.loop-rest.number + length left.now ≤ 1 + length c.args.text.items.now)
           c.loop-rest.rest c.in-Some.left c.in-Some.is c.loop-rest.invariant.place);
     }

@@ -9,8 +9,8 @@ use Rattle.batch_diag.proofs.lines.title_fault.Given as goal
 -- `title_fault` is the same for the whole text and for `rest`
 abbrev pub invariant-loop-rest : goal.invariant-loop-rest
 invariant-loop-rest l = record {
-  said : title_fault (row_lines l.text) ≡ title_fault (left_at l.number (option_copied l.rest));
-  place : IfSome l.rest (λ left. l.number + length left.now ≤ 1 + length l.text);
+  said : title_fault (row_lines l.text.items.now) ≡ title_fault (left_at l.number (option_copied l.rest));
+  place : IfSome l.rest (λ left. l.number + length left.now ≤ 1 + length l.text.items.now);
 }
 
 abbrev pub decreases-loop-rest : goal.decreases-loop-rest

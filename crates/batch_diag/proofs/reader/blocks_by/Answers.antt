@@ -6,10 +6,10 @@ use Rattle.batch_diag.proofs.reader.blocks_by.Goals.{After-read_pieces}
 
 whole : (g : _) (c : After-read_pieces g)
     → AreBlocksRead (λ v. v.items) c.args.rows c.args.len
-    (blocks_of_text c.args.bytes.now c.args.rows c.args.len) c.read_pieces.result
+    (blocks_of_text c.args.text.items.now c.args.rows c.args.len) c.read_pieces.result
 whole g c =
     read_text c.in-Ok.reading (λ v. v.items) c.args.rows c.args.len
-    (blocks_of_text c.args.bytes.now c.args.rows c.args.len) c.read_pieces.result
+    (blocks_of_text c.args.text.items.now c.args.rows c.args.len) c.read_pieces.result
     c.in-Ok.ensures.said c.in-Ok.ensures.size.0 c.in-Ok.ensures.size.1 c.read_pieces.ensures
 
 pub returns-clause-read : goal.returns-clause-read

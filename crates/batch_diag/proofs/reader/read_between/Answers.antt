@@ -27,7 +27,7 @@ loop-i-preserved c =
     let items : c.push.new.self.items ≡ found ++ block ∷ [] = c.in_ok-push.ensures.items in
     rw items (record {
       said =
-          read_more r i c.unread_at-unread.result c.unread_at-unread.ensures.at c.args.first (i + 1)
+          read_more r i c.unread_at-unread.result c.unread_at-unread.ensures c.args.first (i + 1)
           found (found ++ block ∷ []) block c.loop-i.auto.i c.loop-i.invariant.said
           c.in-Ok.ensures.id c.in-Ok.ensures.log refl;
       size = All-push (λ (b : Block). HasSize r.rows r.len b.log) found block c.loop-i.invariant.size c.in-Ok.ensures.size;
@@ -37,7 +37,7 @@ pub returns-in-Err : goal.returns-in-Err
 returns-in-Err c =
     let r = c.args.reading.now in
     let i = c.loop-i.i in (
-      read_none r i c.unread_at-unread.result c.unread_at-unread.ensures.at c.args.first c.args.end
+      read_none r i c.unread_at-unread.result c.unread_at-unread.ensures c.args.first c.args.end
           c.loop-i.found.items c.in-Err.fault c.loop-i.auto.i c.loop-i-test.true c.requires.within
           c.loop-i.invariant.said c.in-Err.ensures.log,
       tt,

@@ -5,5 +5,5 @@ use Rattle.batch_diag.proofs.reader.reading_of.Goals as goal
 
 pub returns-in-Some-title_fault-clause-inner : goal.returns-in-Some-title_fault-clause-inner
 returns-in-Some-title_fault-clause-inner c =
-    title_of_lines (row_lines c.args.bytes.now) c.in-Some-title_fault.fault
+    title_of_lines (row_lines c.args.text.items.now) c.in-Some-title_fault.fault
     (sym c.title_fault.ensures ∙ c.in-Some-title_fault.is)

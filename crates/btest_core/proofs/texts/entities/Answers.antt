@@ -20,8 +20,8 @@ loop-text-init c =
 
 pub loop-text-preserved : goal.loop-text-preserved
 loop-text-preserved c =
-    let left = texts_left c.args.texts.now c.loop-text.text c.loop-text.entities.items
-    c.index-texts-text.result c.deref.result.now c.loop-text-test.true c.index-texts-text.is
+    let left = texts_left c.args.texts.items.now c.loop-text.text c.loop-text.entities.items
+    c.bytes-item.result c.deref.result.now c.loop-text-test.true c.bytes-item.is
     c.deref.ensures.value c.loop-text.invariant.read in
     record {
       read =
@@ -41,19 +41,19 @@ loop-text-preserved c =
 
 pub returns-in-Err-clause-read : goal.returns-in-Err-clause-read
 returns-in-Err-clause-read c =
-    let left = texts_left c.args.texts.now c.loop-text.text c.loop-text.entities.items
-    c.index-texts-text.result c.deref.result.now c.loop-text-test.true c.index-texts-text.is
+    let left = texts_left c.args.texts.items.now c.loop-text.text c.loop-text.entities.items
+    c.bytes-item.result c.deref.result.now c.loop-text-test.true c.bytes-item.is
     c.deref.ensures.value c.loop-text.invariant.read in
     IfSome_then (input_told c.in-Err.fault)
     {P = λ f. IsEntityOf c.deref.result.now c.loop-text.text (Err f)}
-    {Q = λ f. AreEntities (bytes_of c.args.texts.now) (Err f)} c.in-Err.ensures.read
+    {Q = λ f. AreEntities (bytes_of c.args.texts.items.now) (Err f)} c.in-Err.ensures.read
     (λ f is. completes_fault IsEntityOfText _ (c.loop-text.text, c.deref.result.now) _
     c.loop-text.entities.items f left is)
 
 pub returns-clause-read : goal.returns-clause-read
 returns-clause-read c =
     completes_end IsEntityOfText _ c.loop-text.entities.items
-    (no_texts_left c.args.texts.now c.loop-text.text c.loop-text.entities.items
+    (no_texts_left c.args.texts.items.now c.loop-text.text c.loop-text.entities.items
     c.loop-text-test.false c.loop-text.invariant.read)
 
 pub returns-clause-kinds : goal.returns-clause-kinds

@@ -8,7 +8,7 @@ use Rattle.btest_core.proofs.texts.entities.Given as goal
 -- right kinds of values, and its lists, names and texts are shorter than 2^32.
 abbrev pub invariant-loop-text : goal.invariant-loop-text
 invariant-loop-text l = record {
-  read : CompletesTexts l.texts (numbered l.text (drop l.text l.texts)) l.entities.items;
+  read : CompletesTexts l.texts.items.now (numbered l.text (drop l.text l.texts.items.now)) l.entities.items;
   kinds : All HaveKinds l.entities.items;
   small : All IsSmall l.entities.items;
   number : vec_len l.entities ≡ l.text;

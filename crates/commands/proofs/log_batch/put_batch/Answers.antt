@@ -21,7 +21,7 @@ returns-in-Err g c =
     let board = c.args.planned.now.board in
     let fails = of_three
     (λ (t : List ℕ) (rows bits : ℕ). IfSome (batch_told c.in-Err.fault)
-    (λ f. blocks_of_text t rows bits ≡ Err f)) c.as_bytes.ensures.bytes c.log_rows-rows.ensures
+    (λ f. blocks_of_text t rows bits ≡ Err f)) c.as_slice.ensures c.log_rows-rows.ensures
     c.log_bits-bits.ensures c.in-Err.ensures.read in
     rw c.unput_by_batch.ensures
     (batch_wrong (OnBoard judging_each text board) (λ found. verdicts_text (board, found))
@@ -33,6 +33,6 @@ pub returns-in-Ok : goal.returns-in-Ok
 returns-in-Ok g c =
     let read = of_three
     (λ (t : List ℕ) (rows bits : ℕ). blocks_of_text t rows bits ≡ Ok c.in-Ok.blocks.items)
-    c.as_bytes.ensures.bytes c.log_rows-rows.ensures c.log_bits-bits.ensures
+    c.as_slice.ensures c.log_rows-rows.ensures c.log_bits-bits.ensures
     c.in-Ok.ensures.read in
     c.put_blocks.ensures c.args.text.now (read ∙ ap Ok (sym c.deref.ensures.value))

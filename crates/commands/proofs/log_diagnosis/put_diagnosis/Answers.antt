@@ -1,9 +1,9 @@
-use Rattle.std.proofs.Common.{◌≡◌, ℕ, List, ap}
+use Rattle.std.proofs.Common.{◌≡◌, ℕ, ap}
 use Rattle.std.specs.Prelude.{IfSome, Ok, Err}
 use Rattle.response_log.specs.LogRows.{HasSize, log_rows, log_told}
 use Rattle.commands.specs.LogRead.{Log, OnBoard, diagnosing, diagnosis_text, test_log}
 use Rattle.commands.specs.Worth.{Diagnoses}
-use Rattle.commands.proofs.AnswerLemmas.{log_wrong, of_three, of_two}
+use Rattle.commands.proofs.AnswerLemmas.{log_wrong, of_two}
 use Rattle.commands.proofs.log_diagnosis.put_diagnosis.Goals as goal
 
 pub with_log-logged-requires : goal.with_log-logged-requires
@@ -14,10 +14,9 @@ pub returns-in-Err : goal.returns-in-Err
 returns-in-Err g c =
     let text = c.args.text in
     let board = c.args.planned.now.board in
-    let fails = of_three
-    (λ (t : List ℕ) (rows bits : ℕ). IfSome (log_told c.in-Err.fault)
-    (λ f. log_rows t rows bits ≡ Err f)) c.into_bytes.ensures.bytes c.log_rows-rows.ensures
-    c.log_bits-bits.ensures c.in-Err.ensures.read in
+    let fails = of_two
+    (λ (rows bits : ℕ). IfSome (log_told c.in-Err.fault) (λ f. log_rows text rows bits ≡ Err f))
+    c.log_rows-rows.ensures c.log_bits-bits.ensures c.in-Err.ensures.read in
     rw c.unput_by_log.ensures
     (log_wrong (OnBoard diagnosing text board) (λ found. diagnosis_text (board, found))
     (Diagnoses text board) (g.K.Sink.shown c.args.out.now) c.log_rows-rows.result
@@ -27,6 +26,5 @@ returns-in-Err g c =
 pub returns-in-Ok : goal.returns-in-Ok
 returns-in-Ok g c =
     (rw c.with_log-logged.ensures at c.put_judged.ensures) c.args.text
-    (of_three (λ (t : List ℕ) (rows bits : ℕ). log_rows t rows bits ≡ Ok c.in-Ok.log)
-    c.into_bytes.ensures.bytes c.log_rows-rows.ensures c.log_bits-bits.ensures
-    c.in-Ok.ensures.read)
+    (of_two (λ (rows bits : ℕ). log_rows c.args.text rows bits ≡ Ok c.in-Ok.log)
+    c.log_rows-rows.ensures c.log_bits-bits.ensures c.in-Ok.ensures.read)
