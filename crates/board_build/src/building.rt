@@ -17,6 +17,7 @@ use crate::standing::{StandingWords, standing_words};
 use board_defs::{Board, Device, Part};
 use board_files::{ChainFile, NetFile, NetLine};
 use board_lines::{BoardFault, chain_parts, net_names};
+use short_lists::ShortSlice;
 use std::alloc::{AllocError, Global};
 
 /// Returns the board that the files and the devices denote, or the fault of the first rule that the
@@ -68,7 +69,7 @@ fn board_of(alloc: Global, chain: SelectedChain<'_>, nets: &[NetLine]) -> Result
         (λ said. board_answer chain.entry.lines nets.now chain.entry.parts ≡ said) result }
 {
     let _rules = chain.parts();
-    let net = net_names(alloc, nets)?;
+    let net = net_names(alloc, ShortSlice { items: nets })?;
     let words = standing_words(alloc, &chain, &net.numbers, nets)?;
     answer(alloc, chain, &net.names, &words)
 }

@@ -12,6 +12,7 @@ use board_defs::Part;
 use board_files::ChainLine;
 use board_lines::{Naming, described_names, first_places_of, names_in, pulls_by_net, pulls_of};
 use indexmap::IndexMap;
+use short_lists::ShortSlice;
 use std::alloc::{AllocError, Global};
 
 /// Returns a map from each name with the role `naming` on the lines to the index of its first
@@ -28,7 +29,7 @@ pub fn names_by_place<'a>(
         ≡ first_place same_word (names_of (named naming lines.now)) q.now) }
 {
     let names = names_in(alloc, lines, naming)?;
-    first_places_of(alloc, &names)
+    first_places_of(alloc, ShortSlice { items: &names })
 }
 
 /// Returns a map from the name of each described part to the index of its first occurrence among
@@ -44,7 +45,7 @@ pub fn described_by_place<'a>(
         ≡ first_place same_word (described_names parts.now) q.now) }
 {
     let names = described_names(alloc, parts)?;
-    first_places_of(alloc, &names)
+    first_places_of(alloc, ShortSlice { items: &names })
 }
 
 /// Returns a map from each net that a PULL line names to the value of the first such line.

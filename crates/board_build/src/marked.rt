@@ -14,6 +14,7 @@ use crate::selected_chain::SelectedChain;
 use board_defs::{Part, PinAt, Spot};
 use board_lines::{Naming, NetWord, PinPlaces, place_of};
 use indexmap::IndexMap;
+use short_lists::ShortSlice;
 use std::alloc::{AllocError, Global};
 
 /// A word of a net file that names a pin, with facts about the pin.
@@ -172,6 +173,9 @@ pub fn marked_words<'a>(
         (mark_word chain.now.parts (pin_places chain.now.parts)
         (names_of (named Inert chain.now.lines))) (map lent_word words.now)) }
 {
-    let places = PinPlaces::of(alloc, chain.parts())?;
+    let parts = ShortSlice {
+        items: chain.parts(),
+    };
+    let places = PinPlaces::of(alloc, parts)?;
     mark_known(alloc, chain, words, &places)
 }

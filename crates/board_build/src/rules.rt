@@ -18,6 +18,7 @@ use board_defs::{MOST_BITS, MOST_NETS, MOST_PINS, Net, Part, RawBoard, Spot};
 use board_lines::{BoardFault, Limit, PinName, line_fault};
 use first_places::{first_repeated, once_by};
 use lists::is_set;
+use short_lists::ShortSlice;
 use std::alloc::{AllocError, Global};
 
 /// Returns the number of bits of a data scan of the whole chain. There must be at most 255 parts.
@@ -180,7 +181,10 @@ pub fn file_fault(
     if let Some(fault) = pin_fault(alloc, words)? {
         return Ok(Some(fault));
     }
-    line_fault(alloc, chain.lines(), names)
+    let lines = ShortSlice {
+        items: chain.lines(),
+    };
+    line_fault(alloc, lines, ShortSlice { items: names })
 }
 
 /// Returns whether the net must not have an always-on driver, since it is a supply net or has a TAP

@@ -64,7 +64,7 @@ fn unset_rows(alloc: Global, parts: &[Part]) -> Result<Vec<BitFlags>, AllocError
 {
     let mut rows = Vec::with_capacity(alloc, parts.len())?;
     for part in parts {
-        rows.push(BitFlags::unset(alloc, bits_of(&part.kind).len())?)?;
+        rows.push(BitFlags::unset(alloc, bits_of(&part.kind).items.len())?)?;
     }
     Ok(rows)
 }

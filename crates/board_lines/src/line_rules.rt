@@ -1,5 +1,5 @@
 // The rules on the INERT, SUPPLY and PULL lines of a board.
-ghost use Rattle.std.specs.Prelude.{◌≡◌, ◌<◌, ◌≤◌, ◌^◌, map, length, vec_len, IfOk, position, is_some, option_map, Option, List, ℕ};
+ghost use Rattle.std.specs.Prelude.{◌≡◌, ◌≤◌, map, length, vec_len, IfOk, position, is_some, option_map, Option, List, ℕ};
 ghost use Rattle.std.proofs.Common.{Bor};
 ghost use Rattle.indexmap.specs.IndexMap.{get_by};
 ghost use Rattle.board_files.specs.Names.{same_word};
@@ -13,6 +13,7 @@ use crate::selection::{missing, spot_at};
 use board_files::{ChainLine, ChainStatement};
 use first_places::first_values;
 use indexmap::IndexMap;
+use short_lists::ShortSlice;
 use std::alloc::{AllocError, Global};
 
 /// Returns, for each name of the list, the index of its first occurrence in `others`, or None if
@@ -20,13 +21,12 @@ use std::alloc::{AllocError, Global};
 fn places_of(
     alloc: Global,
     named: &[(u32, &[u8])],
-    others: &[&[u8]],
+    others: ShortSlice<'_, &[u8]>,
 ) -> Result<Vec<Option<u32>>, AllocError>
-    requires { length others.now < 2 ^ 32 }
     ensures { IfOk result
         (λ places. places.items
         ≡ first_places_among (map (λ n. (n.0, n.1.now)) named.now)
-        (map (λ n. n.now) others.now)) }
+        (map (λ n. n.now) others.entry.items.now)) }
 {
     let names = names_of(alloc, named)?;
     places_among(alloc, &names, others)
@@ -44,12 +44,11 @@ fn found(places: &[Option<u32>]) -> Option<usize>
 pub fn inert_in_chain(
     alloc: Global,
     inerts: &[(u32, &[u8])],
-    parts: &[&[u8]],
+    parts: ShortSlice<'_, &[u8]>,
 ) -> Result<Option<BoardFault>, AllocError>
-    requires { length parts.now < 2 ^ 32 }
     ensures { IfOk result
         (λ fault. fault
-        ≡ inert_in_chain (map (λ n. (n.0, n.1.now)) inerts.now) (map (λ n. n.now) parts.now)) }
+        ≡ inert_in_chain (map (λ n. (n.0, n.1.now)) inerts.now) (map (λ n. n.now) parts.entry.items.now)) }
 {
     let places = places_of(alloc, inerts, parts)?;
     match found(&places) {
@@ -64,12 +63,11 @@ pub fn inert_in_chain(
 pub fn no_supply_net(
     alloc: Global,
     supplies: &[(u32, &[u8])],
-    nets: &[&[u8]],
+    nets: ShortSlice<'_, &[u8]>,
 ) -> Result<Option<BoardFault>, AllocError>
-    requires { length nets.now < 2 ^ 32 }
     ensures { IfOk result
         (λ fault. fault
-        ≡ no_supply_net (map (λ n. (n.0, n.1.now)) supplies.now) (map (λ n. n.now) nets.now)) }
+        ≡ no_supply_net (map (λ n. (n.0, n.1.now)) supplies.now) (map (λ n. n.now) nets.entry.items.now)) }
 {
     let places = places_of(alloc, supplies, nets)?;
     match missing(&places) {
@@ -84,12 +82,11 @@ pub fn no_supply_net(
 pub fn no_pull_net(
     alloc: Global,
     pulls: &[(u32, &[u8])],
-    nets: &[&[u8]],
+    nets: ShortSlice<'_, &[u8]>,
 ) -> Result<Option<BoardFault>, AllocError>
-    requires { length nets.now < 2 ^ 32 }
     ensures { IfOk result
         (λ fault. fault
-        ≡ no_pull_net (map (λ n. (n.0, n.1.now)) pulls.now) (map (λ n. n.now) nets.now)) }
+        ≡ no_pull_net (map (λ n. (n.0, n.1.now)) pulls.now) (map (λ n. n.now) nets.entry.items.now)) }
 {
     let places = places_of(alloc, pulls, nets)?;
     match missing(&places) {
@@ -101,13 +98,16 @@ pub fn no_pull_net(
 /// Returns the fault of the first PULL line whose net an earlier PULL line names, or None if there
 /// is no such line. There must be fewer than 2^32 PULL lines.
 #[tactic(auto, unfolding(crate::specs::LineRules::pull_twice))]
-pub fn pull_twice(alloc: Global, pulls: &[(u32, &[u8])]) -> Result<Option<BoardFault>, AllocError>
-    requires { length pulls.now < 2 ^ 32 }
-    ensures { IfOk result (λ fault. fault ≡ pull_twice (map (λ n. (n.0, n.1.now)) pulls.now)) }
+pub fn pull_twice(
+    alloc: Global,
+    pulls: ShortSlice<'_, (u32, &[u8])>,
+) -> Result<Option<BoardFault>, AllocError>
+    ensures { IfOk result
+        (λ fault. fault ≡ pull_twice (map (λ n. (n.0, n.1.now)) pulls.entry.items.now)) }
 {
-    let names = names_of(alloc, pulls)?;
-    match first_repeat_of(alloc, &names)? {
-        Some(place) => Ok(spot_at(pulls, place as usize).map(BoardFault::PullTwice)),
+    let names = names_of(alloc, pulls.items)?;
+    match first_repeat_of(alloc, ShortSlice { items: &names })? {
+        Some(place) => Ok(spot_at(pulls.items, place as usize).map(BoardFault::PullTwice)),
         None => Ok(None),
     }
 }
@@ -167,27 +167,26 @@ pub fn pull_of_net(pulls: &IndexMap<&[u8], bool>, net: &[u8]) -> Option<bool>
 #[tactic(auto, unfolding(crate::specs::LineRules::line_fault))]
 pub fn line_fault(
     alloc: Global,
-    lines: &[ChainLine],
-    nets: &[&[u8]],
+    lines: ShortSlice<'_, ChainLine>,
+    nets: ShortSlice<'_, &[u8]>,
 ) -> Result<Option<BoardFault>, AllocError>
-    requires lines { length lines.now < 2 ^ 32 }
-    requires nets { length nets.now < 2 ^ 32 }
-    ensures { IfOk result (λ fault. fault ≡ line_fault lines.now (map (λ n. n.now) nets.now)) }
+    ensures { IfOk result
+        (λ fault. fault ≡ line_fault lines.entry.items.now (map (λ n. n.now) nets.entry.items.now)) }
 {
-    let parts = names_in(alloc, lines, Naming::Part)?;
-    let inerts = named(alloc, lines, Naming::Inert)?;
-    if let Some(fault) = inert_in_chain(alloc, &inerts, &parts)? {
+    let parts = names_in(alloc, lines.items, Naming::Part)?;
+    let inerts = named(alloc, lines.items, Naming::Inert)?;
+    if let Some(fault) = inert_in_chain(alloc, &inerts, ShortSlice { items: &parts })? {
         return Ok(Some(fault));
     }
-    let supplies = named(alloc, lines, Naming::Supply)?;
+    let supplies = named(alloc, lines.items, Naming::Supply)?;
     if let Some(fault) = no_supply_net(alloc, &supplies, nets)? {
         return Ok(Some(fault));
     }
-    let pulls = named(alloc, lines, Naming::Pull)?;
+    let pulls = named(alloc, lines.items, Naming::Pull)?;
     if let Some(fault) = no_pull_net(alloc, &pulls, nets)? {
         return Ok(Some(fault));
     }
-    pull_twice(alloc, &pulls)
+    pull_twice(alloc, ShortSlice { items: &pulls })
 }
 
 /// Returns the names with the role `naming` on these lines, in the order of the lines.

@@ -1,5 +1,5 @@
 // The names on the lines of a chain file.
-ghost use Rattle.std.specs.Prelude.{◌≡◌, ◌<◌, ◌≤◌, ◌^◌, vec_len, List, length, ℕ, map, IfOk, option_map, option_copied, Option};
+ghost use Rattle.std.specs.Prelude.{◌≡◌, ◌≤◌, vec_len, List, length, ℕ, map, IfOk, option_map, option_copied, Option};
 ghost use Rattle.std.proofs.Common.{Bor};
 ghost use Rattle.first_places.specs.Places.{first_place, first_repeat, place_or_zero, once};
 ghost use Rattle.indexmap.specs.IndexMap.{get_by};
@@ -10,6 +10,7 @@ use board_defs::Name;
 use board_files::{ChainLine, ChainStatement};
 use first_places::{first_places, first_repeat, numbered};
 use indexmap::IndexMap;
+use short_lists::ShortSlice;
 use std::alloc::{AllocError, Global};
 
 /// The role of a name on a line of a chain file. `Part` is a part of the chain, on a DEVICE or BYPASS
@@ -72,26 +73,28 @@ pub fn names_of<'a>(alloc: Global, named: &[(u32, &'a [u8])]) -> Result<Vec<&'a 
 
 /// Returns the index of the first name that also occurs earlier in the list. There must be fewer
 /// than 2^32 names.
-pub fn first_repeat_of(alloc: Global, names: &[&[u8]]) -> Result<Option<u32>, AllocError>
-    requires { length names.now < 2 ^ 32 }
-    ensures { IfOk result (λ place. place ≡ first_repeat same_word (map (λ n. n.now) names.now)) }
+pub fn first_repeat_of(
+    alloc: Global,
+    names: ShortSlice<'_, &[u8]>,
+) -> Result<Option<u32>, AllocError>
+    ensures { IfOk result
+        (λ place. place ≡ first_repeat same_word (map (λ n. n.now) names.entry.items.now)) }
 {
-    first_repeat(alloc, names)
+    first_repeat(alloc, names.items)
 }
 
 /// Returns a map from each name to the index of its first occurrence. There must be fewer than 2^32
 /// names.
 pub fn first_places_of<'a>(
     alloc: Global,
-    names: &[&'a [u8]],
+    names: ShortSlice<'_, &'a [u8]>,
 ) -> Result<IndexMap<&'a [u8], u32>, AllocError>
-    requires { length names.now < 2 ^ 32 }
     ensures { IfOk result
         (λ places. (q : Bor (List ℕ))
         → get_by (λ n. same_word q.now n.now) places
-        ≡ first_place same_word (map (λ n. n.now) names.now) q.now) }
+        ≡ first_place same_word (map (λ n. n.now) names.entry.items.now) q.now) }
 {
-    first_places(alloc, names)
+    first_places(alloc, names.items)
 }
 
 /// Returns the index that the map has for this name, or None if the map does not have the name.
@@ -125,12 +128,11 @@ fn places_by(
 pub fn places_among(
     alloc: Global,
     names: &[&[u8]],
-    others: &[&[u8]],
+    others: ShortSlice<'_, &[u8]>,
 ) -> Result<Vec<Option<u32>>, AllocError>
-    requires { length others.now < 2 ^ 32 }
     ensures { IfOk result
         (λ places. places.items
-        ≡ map (first_place same_word (map (λ n. n.now) others.now))
+        ≡ map (first_place same_word (map (λ n. n.now) others.entry.items.now))
         (map (λ n. n.now) names.now)) }
 {
     // If there are no names to look up, `others` needs no map.
@@ -145,16 +147,15 @@ pub fn places_among(
 /// its index among the distinct names. There must be fewer than 2^32 names.
 pub fn numbered_names<'a>(
     alloc: Global,
-    names: &[&'a [u8]],
+    names: ShortSlice<'_, &'a [u8]>,
 ) -> Result<(Vec<&'a [u8]>, Vec<u32>), AllocError>
-    requires { length names.now < 2 ^ 32 }
     ensures once { IfOk result
-        (λ r. map (λ n. n.now) r.0.items ≡ once same_word (map (λ n. n.now) names.now)) }
-    ensures few { IfOk result (λ r. vec_len r.0 ≤ length names.now) }
+        (λ r. map (λ n. n.now) r.0.items ≡ once same_word (map (λ n. n.now) names.entry.items.now)) }
+    ensures few { IfOk result (λ r. vec_len r.0 ≤ length names.entry.items.now) }
     ensures numbers { IfOk result
         (λ r. r.1.items
-        ≡ map (place_or_zero same_word (once same_word (map (λ n. n.now) names.now)))
-        (map (λ n. n.now) names.now)) }
+        ≡ map (place_or_zero same_word (once same_word (map (λ n. n.now) names.entry.items.now)))
+        (map (λ n. n.now) names.entry.items.now)) }
 {
-    numbered(alloc, names)
+    numbered(alloc, names.items)
 }

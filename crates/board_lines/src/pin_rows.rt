@@ -1,6 +1,6 @@
 // Rows of pins. A row has the pins of a device, and finds the port bit of a pin. Parts with the
 // same pins can share a row.
-ghost use Rattle.std.specs.Prelude.{◌≡◌, ◌<◌, ◌≤◌, ◌^◌, if◌then◌else◌, length, slice_get, true, IfOk, IfSome, List, OnOk, Option, Some, ℕ};
+ghost use Rattle.std.specs.Prelude.{◌≡◌, ◌≤◌, if◌then◌else◌, length, slice_get, true, IfOk, IfSome, List, OnOk, Option, Some, ℕ};
 ghost use Rattle.board_defs.specs.Limits.{most_bits};
 ghost use Rattle.std.proofs.Common.{Bor};
 ghost use Rattle.indexmap.specs.IndexMap.{get_by};
@@ -9,6 +9,7 @@ ghost use Rattle.board_lines.specs.PinRows.{bit_of_pin, has_pin_named, pins_of_p
 
 use board_defs::{Name, PartKind, PortBit};
 use indexmap::IndexMap;
+use short_lists::ShortSlice;
 use std::alloc::{AllocError, Global};
 use std::marker::Model;
 
@@ -17,13 +18,15 @@ use std::marker::Model;
 const ROWS_COMPARED: usize = 16;
 
 /// Returns the port bits of a part. A part in BYPASS has no port bits.
-pub fn bits_of(kind: &PartKind) -> &[PortBit]
-    ensures pins { pins_of_bits result.now ≡ pins_of_part kind.now }
-    ensures few { length result.now ≤ most_bits }
+pub fn bits_of(kind: &PartKind) -> ShortSlice<'_, PortBit>
+    ensures pins { pins_of_bits result.items.now ≡ pins_of_part kind.now }
+    ensures few { length result.items.now ≤ most_bits }
 {
     match kind {
-        PartKind::Described(device) => device.raw().bits.as_slice(),
-        PartKind::Bypass(_) => &[],
+        PartKind::Described(device) => ShortSlice {
+            items: device.raw().bits.as_slice(),
+        },
+        PartKind::Bypass(_) => ShortSlice { items: &[] },
     }
 }
 
@@ -49,19 +52,18 @@ fn put_pin<'a>(
 /// fewer than 2^32 port bits.
 fn bits_by_pin<'a>(
     alloc: Global,
-    bits: &'a [PortBit],
+    bits: ShortSlice<'a, PortBit>,
 ) -> Result<IndexMap<&'a [u8], u32>, AllocError>
-    requires { length bits.now < 2 ^ 32 }
     ensures { IfOk result
         (λ by_pin. (q : Bor (List ℕ))
         → get_by (λ n. same_word q.now n.now) by_pin
-        ≡ bit_of_pin (pins_of_bits bits.now) q.now) }
+        ≡ bit_of_pin (pins_of_bits bits.entry.items.now) q.now) }
 {
-    let mut by_pin = IndexMap::with_capacity(alloc, bits.len())?;
-    let mut i = bits.len();
+    let mut by_pin = IndexMap::with_capacity(alloc, bits.items.len())?;
+    let mut i = bits.items.len();
     while 0 < i {
         i -= 1;
-        put_pin(&mut by_pin, &bits[i].pin, i as u32)?;
+        put_pin(&mut by_pin, &bits.items[i].pin, i as u32)?;
     }
     Ok(by_pin)
 }
@@ -117,12 +119,14 @@ impl<'a> Model for PinRow<'a> {
 }
 
 impl<'a> PinRow<'a> {
-    fn of(alloc: Global, bits: &'a [PortBit]) -> Result<PinRow<'a>, AllocError>
-        requires { length bits.now < 2 ^ 32 }
-        ensures { IfOk result (λ row. row ≡ pins_of_bits bits.now) }
+    fn of(alloc: Global, bits: ShortSlice<'a, PortBit>) -> Result<PinRow<'a>, AllocError>
+        ensures { IfOk result (λ row. row ≡ pins_of_bits bits.entry.items.now) }
     {
         let by_pin = bits_by_pin(alloc, bits)?;
-        Ok(PinRow { bits, by_pin })
+        Ok(PinRow {
+            bits: bits.items,
+            by_pin,
+        })
     }
 
     /// Returns the number of the first port bit with this pin, or None if no port bit has it.
@@ -161,16 +165,15 @@ fn row_among(rows: &[PinRow<'_>], bits: &[PortBit]) -> Option<usize>
 pub fn row_of<'a>(
     alloc: Global,
     rows: &mut Vec<PinRow<'a>>,
-    bits: &'a [PortBit],
+    bits: ShortSlice<'a, PortBit>,
 ) -> Result<usize, AllocError>
-    requires { length bits.now < 2 ^ 32 }
     ensures number { IfOk result
-        (λ number. slice_get rows.new.items number ≡ Some (pins_of_bits bits.now)) }
+        (λ number. slice_get rows.new.items number ≡ Some (pins_of_bits bits.entry.items.now)) }
     ensures kept { OnOk result
         ((k : ℕ) (row : List (Option (List ℕ))) → slice_get rows.old.items k ≡ Some row
         → slice_get rows.new.items k ≡ Some row) }
 {
-    if let Some(number) = row_among(rows, bits) {
+    if let Some(number) = row_among(rows, bits.items) {
         return Ok(number);
     }
     let number = rows.len();

@@ -1,6 +1,6 @@
 // Finds the place of a pin in the chain: the number of its part, and the number of its port bit in
 // the part. The part is looked up by its name, and then the port bit by the pin's own name.
-ghost use Rattle.std.specs.Prelude.{◌≡◌, ◌≢◌, ◌<◌, ◌^◌, AllPairs, length, map, option_and_then, slice_get, IfOk, List, Option, Some, ℕ};
+ghost use Rattle.std.specs.Prelude.{◌≡◌, ◌≢◌, AllPairs, map, option_and_then, slice_get, IfOk, List, Option, Some, ℕ};
 ghost use Rattle.std.proofs.Common.{Bor};
 ghost use Rattle.indexmap.specs.IndexMap.{get_by};
 ghost use Rattle.first_places.specs.Places.{first_place};
@@ -14,6 +14,7 @@ use crate::pin_rows::{PinRow, bits_of, row_of};
 use crate::words::PinName;
 use board_defs::{Part, PinAt};
 use indexmap::IndexMap;
+use short_lists::ShortSlice;
 use std::alloc::{AllocError, Global};
 use std::marker::Model;
 
@@ -32,16 +33,15 @@ fn part_names<'a>(alloc: Global, parts: &'a [Part]) -> Result<Vec<&'a [u8]>, All
 /// fewer than 2^32 parts.
 fn parts_by_name<'a>(
     alloc: Global,
-    parts: &'a [Part],
+    parts: ShortSlice<'a, Part>,
 ) -> Result<IndexMap<&'a [u8], u32>, AllocError>
-    requires { length parts.now < 2 ^ 32 }
     ensures { IfOk result
         (λ numbers. (q : Bor (List ℕ))
         → get_by (λ n. same_word q.now n.now) numbers
-        ≡ first_place same_word (map (λ part. part.name) parts.now) q.now) }
+        ≡ first_place same_word (map (λ part. part.name) parts.entry.items.now) q.now) }
 {
-    let names = part_names(alloc, parts)?;
-    first_places_of(alloc, &names)
+    let names = part_names(alloc, parts.items)?;
+    first_places_of(alloc, ShortSlice { items: &names })
 }
 
 /// The rows of the parts. Parts with the same pins can share a row.
@@ -128,15 +128,14 @@ impl<'a> Model for PinPlaces<'a> {
 impl<'a> PinPlaces<'a> {
     /// Returns the places of the pins of these parts. There must be fewer than 2^32 parts, and
     /// their names must differ.
-    pub fn of(alloc: Global, parts: &'a [Part]) -> Result<PinPlaces<'a>, AllocError>
-        requires few { length parts.now < 2 ^ 32 }
-        requires differ { AllPairs (λ a b. a ≢ b) (map (λ part. part.name) parts.now) }
-        ensures { IfOk result (λ places. places ≡ parts.now) }
+    pub fn of(alloc: Global, parts: ShortSlice<'a, Part>) -> Result<PinPlaces<'a>, AllocError>
+        requires { AllPairs (λ a b. a ≢ b) (map (λ part. part.name) parts.items.now) }
+        ensures { IfOk result (λ places. places ≡ parts.entry.items.now) }
     {
         let by_name = parts_by_name(alloc, parts)?;
-        let part_rows = rows_of(alloc, parts)?;
+        let part_rows = rows_of(alloc, parts.items)?;
         Ok(PinPlaces {
-            parts,
+            parts: parts.items,
             by_name,
             part_rows,
         })

@@ -13,6 +13,7 @@ use crate::names::{Naming, first_repeat_of, named, names_of, places_among};
 use board_defs::{MOST_PARTS, Spot};
 use board_files::ChainFile;
 use bsdl_parser::Entity;
+use short_lists::ShortSlice;
 use std::alloc::{AllocError, Global};
 
 /// Returns the index in `entities` of each DEVICE line's entity, or the first fault of the chain.
@@ -27,20 +28,19 @@ pub fn select(alloc: Global, chain: &ChainFile, entities: &[Entity]) -> Result<V
     ensures within { IfOk result
         (λ numbers. All (λ number. number < length entities.now) numbers.items) }
 {
-    entity_numbers(alloc, chain, entities)
+    entity_numbers(alloc, chain, ShortSlice { items: entities })
 }
 
 fn entity_numbers(
     alloc: Global,
     chain: &ChainFile,
-    entities: &[Entity],
+    entities: ShortSlice<'_, Entity>,
 ) -> Result<Vec<u32>, BoardFault>
-    requires { length entities.now < 2 ^ 32 }
     ensures { Gives board_told (λ numbers. numbers.items)
-        (λ said. selection chain.now entities.now ≡ said) result }
+        (λ said. selection chain.now entities.entry.items.now ≡ said) result }
 {
-    let names = entity_names(alloc, entities)?;
-    numbers_among(alloc, chain, &names)
+    let names = entity_names(alloc, entities.items)?;
+    numbers_among(alloc, chain, ShortSlice { items: &names })
 }
 
 /// Returns the index of each DEVICE line's entity among these names, or the first fault of the
@@ -48,18 +48,23 @@ fn entity_numbers(
 fn numbers_among(
     alloc: Global,
     chain: &ChainFile,
-    entities: &[&[u8]],
+    entities: ShortSlice<'_, &[u8]>,
 ) -> Result<Vec<u32>, BoardFault>
-    requires { length entities.now < 2 ^ 32 }
     ensures { Gives board_told (λ numbers. numbers.items)
         (λ said. answer (named PartName chain.now) (named EntityName chain.now)
-        (entity_places (named EntityName chain.now) (map (λ n. n.now) entities.now))
-        (map (λ n. n.now) entities.now) ≡ said) result }
+        (entity_places (named EntityName chain.now) (map (λ n. n.now) entities.entry.items.now))
+        (map (λ n. n.now) entities.entry.items.now) ≡ said) result }
 {
     let parts = named(alloc, chain.lines(), Naming::Part)?;
     let devices = named(alloc, chain.lines(), Naming::Entity)?;
     let places = entity_places(alloc, &devices, entities)?;
-    answer(alloc, &parts, &devices, &places, entities)
+    answer(
+        alloc,
+        ShortSlice { items: &parts },
+        &devices,
+        &places,
+        entities,
+    )
 }
 
 /// Returns the index of each DEVICE line's entity, or the first fault. `places` has this index for
@@ -68,16 +73,14 @@ fn numbers_among(
 #[tactic(auto, unfolding(crate::specs::Selection::answer))]
 fn answer(
     alloc: Global,
-    parts: &[(u32, &[u8])],
+    parts: ShortSlice<'_, (u32, &[u8])>,
     devices: &[(u32, &[u8])],
     places: &[Option<u32>],
-    entities: &[&[u8]],
+    entities: ShortSlice<'_, &[u8]>,
 ) -> Result<Vec<u32>, BoardFault>
-    requires parts { length parts.now < 2 ^ 32 }
-    requires entities { length entities.now < 2 ^ 32 }
     ensures { Gives board_told (λ numbers. numbers.items)
-        (λ said. answer (map (λ n. (n.0, n.1.now)) parts.now)
-        (map (λ n. (n.0, n.1.now)) devices.now) places.now (map (λ n. n.now) entities.now)
+        (λ said. answer (map (λ n. (n.0, n.1.now)) parts.entry.items.now)
+        (map (λ n. (n.0, n.1.now)) devices.now) places.now (map (λ n. n.now) entities.entry.items.now)
         ≡ said) result }
 {
     match first_fault(alloc, parts, devices, places, entities)? {
@@ -91,13 +94,12 @@ fn answer(
 fn entity_places(
     alloc: Global,
     devices: &[(u32, &[u8])],
-    entities: &[&[u8]],
+    entities: ShortSlice<'_, &[u8]>,
 ) -> Result<Vec<Option<u32>>, AllocError>
-    requires { length entities.now < 2 ^ 32 }
     ensures { IfOk result
         (λ places. places.items
         ≡ entity_places (map (λ n. (n.0, n.1.now)) devices.now)
-        (map (λ n. n.now) entities.now)) }
+        (map (λ n. n.now) entities.entry.items.now)) }
 {
     let names = names_of(alloc, devices)?;
     places_among(alloc, &names, entities)
@@ -124,19 +126,17 @@ fn numbers(alloc: Global, places: &[Option<u32>]) -> Result<Vec<u32>, AllocError
 #[tactic(auto, unfolding(crate::specs::Selection::first_fault))]
 fn first_fault(
     alloc: Global,
-    parts: &[(u32, &[u8])],
+    parts: ShortSlice<'_, (u32, &[u8])>,
     devices: &[(u32, &[u8])],
     places: &[Option<u32>],
-    entities: &[&[u8]],
+    entities: ShortSlice<'_, &[u8]>,
 ) -> Result<Option<BoardFault>, AllocError>
-    requires parts { length parts.now < 2 ^ 32 }
-    requires entities { length entities.now < 2 ^ 32 }
     ensures { IfOk result
         (λ fault. fault
-        ≡ first_fault (map (λ n. (n.0, n.1.now)) parts.now)
-        (map (λ n. (n.0, n.1.now)) devices.now) places.now (map (λ n. n.now) entities.now)) }
+        ≡ first_fault (map (λ n. (n.0, n.1.now)) parts.entry.items.now)
+        (map (λ n. (n.0, n.1.now)) devices.now) places.now (map (λ n. n.now) entities.entry.items.now)) }
 {
-    if let Some(fault) = no_chain(parts) {
+    if let Some(fault) = no_chain(parts.items) {
         return Ok(Some(fault));
     }
     if let Some(fault) = part_twice(alloc, parts)? {
@@ -148,7 +148,7 @@ fn first_fault(
     if let Some(fault) = entity_twice(alloc, entities)? {
         return Ok(Some(fault));
     }
-    Ok(chain_limit(parts))
+    Ok(chain_limit(parts.items))
 }
 
 #[tactic(auto, unfolding(crate::specs::Selection::no_chain))]
@@ -185,13 +185,16 @@ pub fn spot_at(named: &[(u32, &[u8])], place: usize) -> Option<Spot>
 }
 
 #[tactic(auto, unfolding(crate::specs::Selection::part_twice))]
-fn part_twice(alloc: Global, parts: &[(u32, &[u8])]) -> Result<Option<BoardFault>, AllocError>
-    requires { length parts.now < 2 ^ 32 }
-    ensures { IfOk result (λ fault. fault ≡ part_twice (map (λ n. (n.0, n.1.now)) parts.now)) }
+fn part_twice(
+    alloc: Global,
+    parts: ShortSlice<'_, (u32, &[u8])>,
+) -> Result<Option<BoardFault>, AllocError>
+    ensures { IfOk result
+        (λ fault. fault ≡ part_twice (map (λ n. (n.0, n.1.now)) parts.entry.items.now)) }
 {
-    let names = names_of(alloc, parts)?;
-    match first_repeat_of(alloc, &names)? {
-        Some(place) => Ok(spot_at(parts, place as usize).map(BoardFault::PartTwice)),
+    let names = names_of(alloc, parts.items)?;
+    match first_repeat_of(alloc, ShortSlice { items: &names })? {
+        Some(place) => Ok(spot_at(parts.items, place as usize).map(BoardFault::PartTwice)),
         None => Ok(None),
     }
 }
@@ -213,9 +216,12 @@ fn no_entity(devices: &[(u32, &[u8])], places: &[Option<u32>]) -> Option<BoardFa
 }
 
 #[tactic(auto, unfolding(crate::specs::Selection::entity_twice))]
-fn entity_twice(alloc: Global, entities: &[&[u8]]) -> Result<Option<BoardFault>, AllocError>
-    requires { length entities.now < 2 ^ 32 }
-    ensures { IfOk result (λ fault. fault ≡ entity_twice (map (λ n. n.now) entities.now)) }
+fn entity_twice(
+    alloc: Global,
+    entities: ShortSlice<'_, &[u8]>,
+) -> Result<Option<BoardFault>, AllocError>
+    ensures { IfOk result
+        (λ fault. fault ≡ entity_twice (map (λ n. n.now) entities.entry.items.now)) }
 {
     match first_repeat_of(alloc, entities)? {
         Some(text) => Ok(Some(BoardFault::EntityTwice(text))),

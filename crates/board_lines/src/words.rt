@@ -1,5 +1,5 @@
 // The words of a net file that name pins.
-ghost use Rattle.std.specs.Prelude.{◌≡◌, ◌<◌, ◌≤◌, ◌-◌, ◌^◌, ◌++◌, All, vec_len, length, map, IfOk, OnOk, slice_get, unwrap_or};
+ghost use Rattle.std.specs.Prelude.{◌≡◌, ◌≤◌, ◌-◌, ◌^◌, ◌++◌, All, vec_len, length, map, IfOk, OnOk, slice_get, unwrap_or};
 ghost use Rattle.first_places.specs.Places.{once};
 ghost use Rattle.board_files.specs.Files.{HasFewPins};
 ghost use Rattle.board_lines.specs.NetWords.{lent_word, same_place, net_names, net_number, net_words, line_words};
@@ -8,6 +8,7 @@ use crate::names::numbered_names;
 use board_defs::Spot;
 use board_files::{NetLine, PinWord, line_names};
 use first_places::once_by;
+use short_lists::ShortSlice;
 use std::alloc::{AllocError, Global};
 
 /// A pin: the name of its part, and its own name.
@@ -28,16 +29,19 @@ pub struct NetNames<'a> {
 
 /// Returns the names of the nets, and the number of each line's net. There must be fewer than 2^32
 /// lines.
-pub fn net_names<'a>(alloc: Global, lines: &'a [NetLine]) -> Result<NetNames<'a>, AllocError>
-    requires { length lines.now < 2 ^ 32 }
-    ensures names { IfOk result (λ net. map (λ n. n.now) net.names.items ≡ net_names lines.now) }
-    ensures few { IfOk result (λ net. vec_len net.names ≤ length lines.now) }
+pub fn net_names<'a>(
+    alloc: Global,
+    lines: ShortSlice<'a, NetLine>,
+) -> Result<NetNames<'a>, AllocError>
+    ensures names { IfOk result
+        (λ net. map (λ n. n.now) net.names.items ≡ net_names lines.entry.items.now) }
+    ensures few { IfOk result (λ net. vec_len net.names ≤ length lines.entry.items.now) }
     ensures numbers { IfOk result
         (λ net. net.numbers.items
-        ≡ map (λ line. net_number (net_names lines.now) line.name) lines.now) }
+        ≡ map (λ line. net_number (net_names lines.entry.items.now) line.name) lines.entry.items.now) }
 {
-    let names = line_names(alloc, lines)?;
-    let (different, numbers) = numbered_names(alloc, &names)?;
+    let names = line_names(alloc, lines.items)?;
+    let (different, numbers) = numbered_names(alloc, ShortSlice { items: &names })?;
     Ok(NetNames {
         names: different,
         numbers,

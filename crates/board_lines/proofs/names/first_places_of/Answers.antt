@@ -6,4 +6,6 @@ use Rattle.board_files.specs.Names.{same_word}
 use Rattle.board_lines.proofs.names.first_places_of.Goals as goal
 
 pub returns : goal.returns
-returns c = IfOk-weaker c.first_places.result _ _ (λ m h q. h q ∙ first_place_lent same_word c.args.names.now q) c.first_places.ensures
+returns c =
+    IfOk-weaker c.first_places.result _ _
+    (λ m h q. h q ∙ first_place_lent same_word c.args.names.items.now q) c.first_places.ensures

@@ -12,12 +12,12 @@ use Rattle.board_lines.proofs.names.numbered_names.Goals as goal
 pub returns-clause-once : goal.returns-clause-once
 returns-clause-once c =
     IfOk-weaker c.numbered.result _ _
-    (λ r e. ap (map (λ n. n.now)) e ∙ once-map (λ n. n.now) same_word c.args.names.now)
+    (λ r e. ap (map (λ n. n.now)) e ∙ once-map (λ n. n.now) same_word c.args.names.items.now)
     c.numbered.ensures.once
 
 pub returns-clause-numbers : goal.returns-clause-numbers
 returns-clause-numbers c =
-    let names = c.args.names.now in
+    let names = c.args.names.items.now in
     let kept = once (λ a b. same_word a.now b.now) names in
     IfOk-weaker c.numbered.result _ _
     (λ r e. e ∙ map_lent (place_or_zero (λ a b. same_word a.now b.now) kept)

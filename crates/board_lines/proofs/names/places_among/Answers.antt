@@ -10,6 +10,6 @@ pub returns : goal.returns
 returns c =
     IfOk-weaker c.places_by.result _ _
     (λ places e. e
-    ∙ map_lent _ (first_place same_word (map (λ n. n.now) c.args.others.now))
+    ∙ map_lent _ (first_place same_word (map (λ n. n.now) c.args.others.items.now))
     (λ name. c.in_ok-known.ensures name) c.args.names.now)
     c.places_by.ensures

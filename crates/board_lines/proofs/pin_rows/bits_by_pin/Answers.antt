@@ -8,9 +8,9 @@ pub loop-i-preserved : goal.loop-i-preserved
 loop-i-preserved c = record {
   within = omega (arith, c.loop-i.invariant.within);
   places =
-      λ q. bits_step c.args.bits.now c.loop-i.i c.index-bits-i.result q.now _ _ c.loop-i-test.true
+      λ q. bits_step c.args.bits.items.now c.loop-i.i c.index-bits-i.result q.now _ _ c.loop-i-test.true
       c.loop-i.invariant.within (c.loop-i.invariant.places q) (c.in_ok-put_pin.ensures q);
 }
 
 pub returns : goal.returns
-returns c = λ q. c.loop-i.invariant.places q ∙ bits_all c.args.bits.now c.loop-i.i q.now (omega (arith, c.loop-i-test.false))
+returns c = λ q. c.loop-i.invariant.places q ∙ bits_all c.args.bits.items.now c.loop-i.i q.now (omega (arith, c.loop-i-test.false))

@@ -11,7 +11,7 @@ pub returns : goal.returns
 returns c =
     let chain = c.args.chain.now in
     let same : map (λ n. n.now) c.deref.result.now
-    ≡ entity_names c.args.entities.now = ap (map (λ n. n.now)) c.deref.ensures.value
+    ≡ entity_names c.args.entities.items.now = ap (map (λ n. n.now)) c.deref.ensures.value
     ∙ c.in_ok-names.ensures.names in
     subst
     (λ names. Gives board_told (λ numbers. numbers.items)

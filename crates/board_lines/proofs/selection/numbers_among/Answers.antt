@@ -10,7 +10,7 @@ use Rattle.board_lines.proofs.selection.numbers_among.Goals as goal
 pub returns : goal.returns
 returns c =
     let chain = c.args.chain.now in
-    let names = map (λ n. n.now) c.args.entities.now in
+    let names = map (λ n. n.now) c.args.entities.items.now in
     let same : answer (map (λ n. (n.0, n.1.now)) c.deref-2.result.now)
     (map (λ n. (n.0, n.1.now)) c.deref-3.result.now) c.deref-4.result.now names
     ≡ answer (named Part chain) (named Entity chain) (entity_places (named Entity chain) names)

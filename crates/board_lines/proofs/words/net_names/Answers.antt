@@ -11,4 +11,4 @@ returns-clause-numbers c =
     c.in_ok-different.ensures.numbers
     ∙ ap (λ v. map (place_or_zero same_word (once same_word v)) v)
     (ap (map (λ n. n.now)) c.deref.ensures.value ∙ c.in_ok-names.ensures.names)
-    ∙ map-map (λ line. line.name) (net_number (net_names c.args.lines.now)) c.args.lines.now
+    ∙ map-map (λ line. line.name) (net_number (net_names c.args.lines.items.now)) c.args.lines.items.now
