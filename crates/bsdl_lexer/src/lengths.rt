@@ -1,5 +1,5 @@
 //! Measures the token, and the gap of blanks and comments, at the front of a list of bytes.
-ghost use Rattle.std.specs.Prelude.{◌≡◌, ◌+◌, ◌≤◌, ◌<◌, ◌^◌, length, take, drop, slice_get, MatchOption, IfSome, false};
+ghost use Rattle.std.specs.Prelude.{◌≡◌, ◌+◌, ◌≤◌, ◌<◌, length, take, drop, slice_get, MatchOption, IfSome, false};
 ghost use Rattle.std.specs.List.{prefix_len};
 ghost use Rattle.std.specs.Char.{is_ascii_digit};
 ghost use Rattle.bsdl_lexer.specs.Forms.{is_bsdl_blank, is_word_byte, is_text_byte, is_mark_byte, is_exponent_letter, is_sign, begins_comment};
