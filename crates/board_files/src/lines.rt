@@ -19,8 +19,12 @@ pub(crate) trait FileLine: Drop {
 }
 
 /// Returns the lines of a file, or the fault of its first faulty line. There are at most as many lines as the text has bytes.
-pub(crate) fn read_lines<L: FileLine>(alloc: Global, text: TextSlice<'_>) -> Result<Vec<L>, LineFault>
-    ensures read { ReadsLines (λ lines. lines.items) result (lines_of_text L.read text.entry.items.now) }
+pub(crate) fn read_lines<L: FileLine>(
+    alloc: Global,
+    text: TextSlice<'_>,
+) -> Result<Vec<L>, LineFault>
+    ensures read { ReadsLines (λ lines. lines.items) result
+        (lines_of_text L.read text.entry.items.now) }
     ensures count { IfOk result (λ lines. vec_len lines ≤ length text.entry.items.now) }
 {
     let mut lines = Vec::new(alloc);
