@@ -81,6 +81,12 @@ def depths(text: str) -> Iterator[Tuple[int, str, int]]:
         depth += it in "([{"
 
 
+def depth_after(lines: List[str]) -> int:
+    """Returns how many brackets are open after some lines."""
+    text = "\n".join(lines)
+    return sum(it in "([{" for it in text) - sum(it in ")]}" for it in text)
+
+
 def directions(said: str) -> List[str]:
     """Returns the two directions of a clause that is an equivalence, or nothing."""
     places = [at for at, it, depth in depths(said) if it == "↔" and depth == 0]
@@ -96,11 +102,11 @@ def directions(said: str) -> List[str]:
 def body_of(lines: List[str], first: int, indent: str) -> int:
     """Returns the line that opens the body of the function at a line, or 0 if none is opened."""
     for at in range(first, len(lines)):
-        line = lines[at]
+        line, depth = lines[at], depth_after(lines[first : at + 1])
         opens = line in (f"{indent}{{", f"{indent}{{}}")
-        if opens or (line.endswith(" {") and not CLAUSE.match(line)):
+        if opens or (line.endswith(" {") and depth == 1):
             return at
-        if line.endswith((";", "{}")):
+        if line.endswith((";", "{}")) and depth == 0:
             break
     return 0
 

@@ -104,6 +104,17 @@ fn sizes(few: &Few) -> usize {
     few.size()
 }
 """
+BROKEN = """pub fn of(
+    size: usize,
+) -> Pair
+    ensures { result
+        ≡ record {
+          size = size;
+        } }
+{
+    Pair { size }
+}
+"""
 CHECK = """src/lib.rt:3:1: warning: unused
 ./proofs/other/Proof.antt:3:5: `other_spec` is not admitted: has-holes
 proofs/one/Answers.antt:4:8: error: `c` has no field `ensures`
@@ -179,5 +190,7 @@ def check(_program):
     yield 'a record with a field less', lambda: same(weaker_forms.without_line(RECORD, fields[1]), left)
     without = LITERAL.replace(' first = g (record { first = 1; third = 2 });', '')
     yield 'a literal with a field less', lambda: same(weaker_forms.without_field(LITERAL, ['first', 'second'], 'first'), without)
+    ends = [(it.body, it.last) for it in weaker_forms.functions_of('src/pair.rt', BROKEN)]
+    yield 'a clause with a line that ends as a head does', lambda: same(ends, [(7, 9)])
     yield 'what is tried together', lambda: same(rounds_of_two_crates(), ROUNDS)
     yield 'what a check says of each function', lambda: same(read_check(), READ)
