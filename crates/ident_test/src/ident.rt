@@ -137,7 +137,9 @@ fn put_scan<K: Sink>(
     requires few { length parts.now ≤ most_parts }
     requires whole { All (λ part. IfSome part (λ code. length code ≡ 32)) parts.now }
     requires room { EachHasRoom (λ room. length (ident_bits parts.now) ≤ room) rows.old }
-    ensures { Puts (K.shown out.old) (K.shown out.new) (scan_text (ident_scan parts.now)) result }
+    ensures text { Puts (K.shown out.old) (K.shown out.new) (scan_text (ident_scan parts.now))
+        result }
+    ensures kept { AreSameRows rows.old rows.new }
 {
     fill_rows(parts, rows);
     let shape = Shape {
@@ -170,7 +172,10 @@ pub fn write_ident<K: Sink>(
     requires tdi_room { length (ident_bits parts.now) ≤ tdi.old.room }
     requires tdo_room { length (ident_bits parts.now) ≤ tdo.old.room }
     requires mask_room { length (ident_bits parts.now) ≤ mask.old.room }
-    ensures { Puts (K.shown out.old) (K.shown out.new) (ident_text parts.now) result }
+    ensures text { Puts (K.shown out.old) (K.shown out.new) (ident_text parts.now) result }
+    ensures tdi { tdi.new.room ≡ tdi.old.room }
+    ensures tdo { tdo.new.room ≡ tdo.old.room }
+    ensures mask { mask.new.room ≡ mask.old.room }
 {
     write_head(out)?;
     put_scan(parts, &mut ScanRows { tdi, tdo, mask }, line, out)?;

@@ -29,8 +29,8 @@ write_scan-requires-clause-masked g c =
     masked_rows (ident_bits c.args.parts.now) _ _ c.fill_rows.ensures.bits.tdo
     c.fill_rows.ensures.bits.mask
 
-pub returns : goal.returns
-returns g c =
+pub returns-clause-text : goal.returns-clause-text
+returns-clause-text g c =
     puts_same
     (scan_text-rows false (ident_bits c.args.parts.now) _ _ _ c.fill_rows.ensures.bits.tdi
     c.fill_rows.ensures.bits.tdo c.fill_rows.ensures.bits.mask) c.write_scan.ensures
