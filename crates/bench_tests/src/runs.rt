@@ -209,7 +209,9 @@ const TEXTS: [Run; 2] = [
 
 const WORDS: [(usize, Ending<'static>); 2] = [(1, COVERED), (2, COVERED)];
 
-static ROWS: [Failing; 5] = [
+const ONE_WORD: [(usize, Ending<'static>); 1] = [(1, COVERED)];
+
+static ROWS: [Failing; 6] = [
     (
         Table {
             name: "runs",
@@ -253,6 +255,16 @@ static ROWS: [Failing; 5] = [
             rows: Rows::Words(&["cover c n drv"], " rcv", &WORDS),
         },
         1,
+        Status::Refused,
+    ),
+    // The second command line has the other ending.
+    (
+        Table {
+            name: "command lines",
+            texts: &[],
+            rows: Rows::Words(&["cover c n drv", "cover c n"], " rcv", &ONE_WORD),
+        },
+        0,
         Status::Refused,
     ),
 ];

@@ -77,6 +77,7 @@ pub struct Ctl {
 
 impl Ctl {
     /// Returns whether both values name the same cell of the same part.
+    #[inline]
     pub fn is_same(self, other: Ctl) -> bool
         ensures { result ≡ same_ctl self other }
     {
