@@ -241,7 +241,7 @@ impl RawBoard {
     }
 
     /// Returns whether the pin belongs to a test access port or is named by compliance patterns.
-    pub fn is_test_pin(&self, pin: &NetPin) -> bool
+    fn is_test_pin(&self, pin: &NetPin) -> bool
         ensures { result ≡ is_test_pin self.now pin.now }
     {
         match pin.at {
