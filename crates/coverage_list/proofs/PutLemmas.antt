@@ -1,5 +1,5 @@
--- Lemmas about a loop that writes the texts of the numbers below `count` in turn. At each step, what the loop has written and the
--- remaining texts are the whole text.
+-- Lemmas about a loop that writes the texts of the numbers below `count` in turn. At each step, what the loop has written, followed by
+-- the remaining texts, is the whole text.
 use Rattle.std.proofs.Common.{◌≡◌, ℕ, ◌+◌, ◌-◌, ◌<◌, ◌≤◌, zero, suc, append_assoc, List, [], ◌++◌, refl, sym, ◌∙◌, ap, Result, Ok, Err, IsErr, arith}
 use Rattle.std.specs.List.{flat_map, range_with_len}
 use Rattle.bt_base.specs.Puts.{Shown}

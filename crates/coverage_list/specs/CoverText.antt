@@ -75,6 +75,7 @@ pair_line low high = line_of (codes "PAIR " ∷ low.name ∷ codes " " ∷ high.
 abbrev pub pair_lines : RawBoard → List ℕ
 pair_lines board = flat_map (λ pair. pair_line pair.0 pair.1) (unpaired board)
 
--- the lines of the list: the counts, the nets that are not covered, the untested drivers, the untested receivers, and the unpaired nets
+-- the lines of the list: the counts, the nets that are not covered, the untested drivers, the untested receivers, and the pairs of
+-- covered nets that are not paired
 unfoldable pub cover_text : RawBoard → List ℕ
 cover_text board = count_line board ++ (reason_lines board ++ (pin_lines board Driver ++ (pin_lines board Receiver ++ pair_lines board)))

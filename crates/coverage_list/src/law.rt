@@ -6,8 +6,9 @@ ghost use Rattle.coverage_list.specs.CoverList.{IsCoverList};
 
 use board_defs::law::terms_decided;
 
-/// The coverage list of a board is true of all safe settings of the board. It lists each net that is not covered. Of the covered nets it
-/// lists each untested pin and each pair that is not paired. It lists nothing else.
+/// The coverage list of a board is true. It gives the number of nets and the number of covered nets. It lists each net
+/// that is not covered, with its reason. Of the covered nets, it lists each driver and each receiver that no safe
+/// setting tests, and each pair of nets that no safe setting observes together. It lists no other net, pin or pair.
 pub fn lists_are_true()
     ensures { (board : RawBoard) → IsBoard board → IsCoverList board (cover_text board) }
 {

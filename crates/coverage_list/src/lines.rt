@@ -1,4 +1,4 @@
-// Writes the lines of the coverage list.
+// Writes the lines of the coverage list. The parameter `line` of these functions is a buffer for the bytes of one line.
 ghost use Rattle.std.specs.Prelude.{◌≡◌, [], ◌∷◌, Some, codes, decimal};
 ghost use Rattle.line_printer.specs.Prints.{Prints, line_of};
 ghost use Rattle.coverage_list.specs.CoverText.{reason_word, use_word, reason_line, pin_line, pair_line};
@@ -9,7 +9,7 @@ use bt_bits::Line;
 use itoa::Buffer;
 use line_printer::put_line;
 
-/// The role in which a pin is tested.
+/// A role in which a pin can be tested.
 #[derive(Clone, Copy, Debug, PartialEq, Eq)]
 pub enum PinUse {
     Driver,

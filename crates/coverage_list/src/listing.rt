@@ -1,4 +1,5 @@
-// Writes the coverage list of a board, section by section and net by net.
+// Writes the coverage list of a board, section by section and net by net. The parameter `line` of these functions is a
+// buffer for the bytes of one line.
 ghost use Rattle.std.specs.Prelude.{◌≡◌, ◌<◌, ◌≤◌, ◌+◌, ◌*◌, ◌/◌, ◌==◌, [], length, Some, slice_get};
 ghost use Rattle.std.specs.Int.{bit_at};
 ghost use Rattle.bt_base.specs.Puts.{Puts};
@@ -127,8 +128,8 @@ fn has_bit(word: u64, place: u32) -> bool
     word >> place & 1 == 1
 }
 
-/// Returns whether net `high` is covered and not paired with net `low`. `unpaired` must be the word with the bit of net
-/// `high`, in which a bit is set if its net is covered and not paired with net `low`.
+/// Returns whether net `high` is covered and not paired with net `low`. `unpaired` must be word `high / 64` of the bits
+/// that say which nets are covered and not paired with net `low`.
 fn is_unpaired(board: &BoardClasses<'_>, unpaired: u64, low: u32, high: u32) -> bool
     requires { AreWordBits (unpaired_with board.now low) (high / 64) unpaired }
     ensures { HoldsOfNet board.now low
@@ -137,8 +138,9 @@ fn is_unpaired(board: &BoardClasses<'_>, unpaired: u64, low: u32, high: u32) -> 
     has_bit(unpaired, high % 64)
 }
 
-/// Writes the line of nets `low` and `high` if net `high` is covered and not paired with net `low`. `unpaired` must be
-/// the word with the bit of net `high`, in which a bit is set if its net is covered and not paired with net `low`.
+/// Writes the line of the pair of nets `low` and `high` if net `high` is covered and not paired with net `low`. The
+/// board must have both nets. `unpaired` must be word `high / 64` of the bits that say which nets are covered and not
+/// paired with net `low`.
 fn put_pair_at<K: Sink>(
     board: &BoardClasses<'_>,
     unpaired: u64,
@@ -161,8 +163,8 @@ fn put_pair_at<K: Sink>(
     }
 }
 
-/// Writes a line of net `low` with each net in `from..end` that is covered and not paired with net `low`. The board
-/// must have these nets. The nets `from..end` must have their bits in one word.
+/// Writes, for each net in `from..end` that is covered and not paired with net `low`, the line of the pair of net `low`
+/// and this net. The board must have all these nets. The nets `from..end` must have their bits in one word.
 fn put_word<K: Sink>(
     board: &BoardClasses<'_>,
     low: u32,
@@ -188,8 +190,8 @@ fn put_word<K: Sink>(
     Ok(())
 }
 
-/// Writes a line of net `low` with each later net that is covered and not paired with net `low`. The board must have
-/// net `low`.
+/// Writes, for each later net that is covered and not paired with net `low`, the line of the pair of net `low` and this
+/// net. The board must have net `low`.
 fn put_later<K: Sink>(
     board: &BoardClasses<'_>,
     low: u32,
@@ -277,9 +279,10 @@ fn put_list<K: Sink>(board: &BoardClasses<'_>, line: &mut Line, out: &mut K) -> 
 
 /// Writes the coverage list of a board: the number of nets and of covered nets; each net that is not covered, with its
 /// reason; the untested drivers and then the untested receivers of covered nets; and the pairs of covered nets that are
-/// not paired. The classes must be those of the board. Each line of at most `MAX_LINE` bytes is one put. A longer line
-/// is written in pieces of `MAX_LINE` bytes and a last piece. The function allocates nothing. It uses `line` as a
-/// buffer, whose content afterwards is unspecified. Fails only if the sink fails, which then took a prefix of the list.
+/// not paired. The classes must be those of the board. Each line of at most `MAX_LINE` bytes is written by one call of
+/// `put`. A longer line is written by several calls. Each call but the last writes `MAX_LINE` bytes, and the last call
+/// writes the rest. The function allocates nothing. It uses `line` as a buffer, whose content afterwards is
+/// unspecified. Fails only if the sink fails. The sink has then taken a prefix of the list.
 pub fn write_cover<K: Sink>(
     board: &Board,
     classes: &Classes,

@@ -1,4 +1,6 @@
-// Finds the counts, the untested pins and the unpaired nets for the coverage list, from a board with its classes.
+// Answers the questions that the coverage list depends on: how many nets are covered, which pins are untested, and
+// which nets may be in a pair that is not paired. The classes of a board say what its nets, pins and controls can do in
+// safe settings.
 ghost use Rattle.std.specs.Prelude.{◌≡◌, ◌<◌, [], length, Some, true, false, slice_get};
 ghost use Rattle.board_defs.specs.Pins.{IsOnBoard};
 ghost use Rattle.board_defs.specs.Decided.{is_covered};
@@ -53,9 +55,9 @@ pub fn is_untested(board: &BoardClasses<'_>, pin_use: PinUse, pin: PinRef) -> bo
     }
 }
 
-/// Returns false only if the list has no line that pairs the net with a later net. Returns false if the net is not
-/// covered, or if one of its tested drivers alone shows that every covered net is paired with it. If the result is
-/// true, the net is covered. The board must have the net.
+/// Returns whether the list may have a line for the pair of this net and a later net. If the result is false, the list
+/// has no such line. The result is false if the net is not covered, or if one of its tested drivers alone shows that
+/// every covered net is paired with it. If the result is true, the net is covered. The board must have the net.
 pub fn may_be_unpaired(board: &BoardClasses<'_>, n: u32) -> bool
     requires { n < length board.now.nets }
     ensures free { result ≡ false → HoldsOfNet board.now n (λ net. net_pairs board.now n net ≡ []) }

@@ -1,4 +1,4 @@
--- Lemmas about the table of nets with the same tested drivers.
+-- Lemmas about the table of nets whose lists of tested drivers are equal.
 use Rattle.std.proofs.Common.{◌≡◌, refl, Bool, true, List, ◌∙◌, ap, sym}
 use Rattle.std.specs.Bool.{Decides}
 use Rattle.std.specs.Cmp.Lexicographic.{pointwise}

@@ -38,7 +38,7 @@ taken_out : filter (λ n. not (is_in (all ∷ (all - 4) ∷ all ∷ []) n)) (ran
 unfolding is_in
 taken_out = refl
 
--- the numbers of word 1 with the bits 5: bits 0 and 2
+-- The value 5 has bits 0 and 2 set. In word 1 these are the bits of the numbers 64 and 66.
 of_one_word : filter (is_of_word 1 5) (range_with_len 0 192) ≡ 64 ∷ 66 ∷ []
 of_one_word = refl
 
@@ -46,7 +46,7 @@ of_one_word = refl
 ends_of_word : filter (is_of_word 0 (2 ^ 63 + 1)) (range_with_len 0 192) ≡ 0 ∷ 63 ∷ []
 ends_of_word = refl
 
--- a word without bits has no numbers
+-- a word with no bit set has no numbers
 none_of_word : filter (is_of_word 2 0) (range_with_len 0 192) ≡ []
 none_of_word = refl
 

@@ -33,7 +33,7 @@ shared_within board c nets most e f =
     let within : k < count = omega (arith, less, length-range_with_len 0 count) in
     omega (arith, get_or-range_with_len 0 count k d within, within, f)))
 
--- One turn of the loop over the useful controls, for control `k`.
+-- One turn of the loop over the useful controls, for useful control number `k`.
 pub sharers_more : (board : RawBoard) (k : ℕ) (d : Ctl) (nets : List ℕ)
     (before after : List (List ℕ)) → AreSharersBelow board k before
     → slice_get (useful_controls board) k ≡ Some d → nets ≡ shared_nets board d

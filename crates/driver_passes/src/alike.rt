@@ -1,5 +1,6 @@
-// Finds nets with the same tested drivers. A pass that enables a tested driver of one of two such nets also enables a
-// tested driver of the other.
+// Finds nets whose lists of tested drivers are equal. A driver in such a list is given only by the way in which it is
+// enabled (always, or by which control), so two different nets can have equal lists. A pass that enables a tested
+// driver of one of two such nets also enables a tested driver of the other.
 ghost use Rattle.std.specs.Prelude.{◌≡◌, ◌≤◌, ◌<◌, length, true, IfOk, IfSome};
 ghost use Rattle.board_defs.specs.Passes.{useful_controls};
 ghost use Rattle.driver_passes.specs.inner.Alike.{AreAlike};
@@ -26,7 +27,7 @@ fn first_place(board: &BoardClasses<'_>, drivers: &[Drive]) -> Option<usize>
     }
 }
 
-/// Returns `other` if `other` comes before `net` and has the same tested drivers, and otherwise `net`.
+/// Returns `other` if `other` comes before `net` and has an equal list of tested drivers, and otherwise `net`.
 fn like_of(board: &BoardClasses<'_>, other: usize, net: usize) -> usize
     ensures within { result ≤ net }
     ensures alike { drivers_at board.now result ≡ drivers_at board.now net }
@@ -41,8 +42,9 @@ fn like_of(board: &BoardClasses<'_>, other: usize, net: usize) -> usize
     }
 }
 
-/// Returns, for each net, an earlier net with the same tested drivers, or the net itself. Compares each net with at
-/// most one earlier net: the latest one whose first tested driver has the same control, or net 0 if there is none.
+/// Returns, for each net, an earlier net with an equal list of tested drivers, or the net itself. Compares each net
+/// with at most one earlier net: the latest one whose first tested driver has the same control, or net 0 if there is
+/// none.
 pub fn likes_of(alloc: Global, board: &BoardClasses<'_>) -> Result<Vec<u32>, AllocError>
     ensures { IfOk result (λ likes. AreAlike board.now likes.items) }
 {

@@ -1,4 +1,4 @@
-// Makes the passes that together enable every tested driver.
+// Makes the passes that together enable every tested driver. A draft is a pass that is being made.
 ghost use Rattle.std.specs.Prelude.{◌≡◌, ◌<◌, ◌≤◌, ◌++◌, ◌∷◌, [], false, true, fold, length, slice_get, take, All, IfOk, IfSome, OnOk};
 ghost use Rattle.std.specs.List.{flat_map, list_any};
 ghost use Rattle.board_defs.specs.Limits.{most_pins};
@@ -19,14 +19,14 @@ use std::alloc::{AllocError, Global};
 #[derive(Drop)]
 pub struct Progress {
     pub passes: Vec<Setting>,
-    /// For each pass, the set of the nets that it shows.
+    /// For each pass, the set of the nets that it shows. A pass shows a net if it enables a tested driver of the net.
     pub rows: Vec<NumberSet>,
     /// The places, in the list of useful controls, of the controls that are in some pass.
     pub held: NumberSet,
 }
 
-/// Returns the pass that is made for tested driver `d` after the passes `earlier`, none of which enables `d`. `earlier`
-/// must have passes of this board. The control of `d`, if it has one, must be useful.
+/// Returns, as a draft, the pass that is made for tested driver `d` after the passes `earlier`. `earlier` must have
+/// passes of this board. The control of `d`, if it has one, must be useful.
 fn driver_pass<'a, 'b>(
     alloc: Global,
     board: &'a BoardTables<'b>,
@@ -86,7 +86,7 @@ impl Progress {
         }
     }
 
-    /// Appends the draft as a pass. It must be a draft for the board of the passes so far.
+    /// Appends the draft's setting as a pass. The draft must be for the board of the passes so far.
     fn push(&mut self, alloc: Global, draft: &Draft<'_, '_>) -> Result<(), AllocError>
         requires { IsProgress draft.now.board self.old }
         ensures progress { OnOk result (IsProgress draft.now.board self.new) }

@@ -1,4 +1,4 @@
-// Adds passes until, for every two paired nets, some pass observes both.
+// Adds passes until, for every two paired nets, some pass observes both. A draft is a pass that is being made.
 ghost use Rattle.std.specs.Prelude.{◌≡◌, ◌<◌, ◌≤◌, ◌+◌, ◌*◌, ◌^◌, ◌∷◌, ◌++◌, ℕ, [], false, true, fold, length, IfOk, OnOk};
 ghost use Rattle.board_defs.specs.Limits.{most_nets, most_pins};
 ghost use Rattle.board_defs.specs.Passes.{are_shown, drivers_by_net, pair_pass, pair_passes, useful_controls};
@@ -36,8 +36,8 @@ pub struct Pairing {
     pub always: NumberSet,
 }
 
-/// Returns the pass that is made from this pair of tested drivers of two paired nets. The control of each driver, if it
-/// has one, must be useful.
+/// Returns, as a draft, the pass that is made from this pair of tested drivers of two paired nets. The control of each
+/// driver, if it has one, must be useful.
 fn pair_pass<'a, 'b>(
     alloc: Global,
     board: &'a BoardTables<'b>,
@@ -79,7 +79,7 @@ impl Pairing {
         })
     }
 
-    /// Appends the draft as a pass, and updates the tables. Net `a` must be the current net.
+    /// Appends the draft's setting as a pass, and updates the tables. Net `a` must be the current net.
     fn push(&mut self, alloc: Global, a: usize, draft: &Draft<'_, '_>) -> Result<(), AllocError>
         requires { LooksAt draft.now.board self.old a }
         ensures looks { OnOk result (LooksAt draft.now.board self.new a) }
@@ -120,8 +120,8 @@ impl Pairing {
     }
 
     /// Returns whether one of three tests shows that no pass is needed for net `a` and any later net: an earlier net
-    /// has the same tested drivers, net `a` has no tested driver, or every pass shows net `a`. The passes for all
-    /// earlier nets must be there already.
+    /// has an equal list of tested drivers (each given by how it is enabled), net `a` has no tested driver, or every
+    /// pass shows net `a`. The passes for all earlier nets must be there already.
     fn is_done(&self, board: &BoardTables<'_>, a: usize) -> bool
         requires first { a < length board.now.nets }
         requires pairing { ArePairing board.now self.now }

@@ -1,4 +1,5 @@
-// A board with the tables from which its passes are made.
+// A board with the tables from which its passes are made. A board's classes say what its nets, pins and controls can do
+// in safe settings.
 ghost use Rattle.std.specs.Prelude.{◌≡◌, ◌≤◌, true, IfOk};
 ghost use Rattle.board_defs.specs.Passes.{useful_controls};
 ghost use Rattle.board_defs.specs.Settings.{holds};
@@ -26,7 +27,7 @@ pub struct BoardTables<'a> {
     /// For each net, the places of the useful controls that share the net with another control.
     sharers: Vec<Blocks>,
     tested_nets: TestedNets,
-    /// For each net, an earlier net with the same tested drivers, or the net itself.
+    /// For each net, an earlier net whose tested drivers are enabled in the same ways, or the net itself.
     likes: Vec<u32>,
 }
 
@@ -64,7 +65,7 @@ impl<'a> BoardTables<'a> {
         })
     }
 
-    /// Returns the board with its classes. The contract also says that the board keeps the laws of boards.
+    /// Returns the board with its classes. The contract also says that the laws of boards hold for this board.
     pub fn classes(&self) -> &BoardClasses<'a>
         ensures same { result.now ≡ self.now }
         ensures laws { KeepsLaws self.now }
@@ -72,7 +73,8 @@ impl<'a> BoardTables<'a> {
         &self.classes
     }
 
-    /// Returns an earlier net with the same tested drivers as this net, or the net itself.
+    /// Returns an earlier net whose tested drivers are enabled in the same ways as those of this net, or the net
+    /// itself.
     pub fn like_of(&self, net: usize) -> usize
         ensures within { result ≤ net }
         ensures alike { drivers_at self.now result ≡ drivers_at self.now net }
@@ -83,8 +85,9 @@ impl<'a> BoardTables<'a> {
         }
     }
 
-    /// Removes from `free` the places of the useful controls that are not together with `c`, that is, a setting with
-    /// both controls is not safe. The contract does not say whether the place of `c` itself stays. `c` must be useful.
+    /// Removes from `free` the places of the useful controls that are not together with `c`. Two controls are together
+    /// if the setting with just these two is safe. The contract does not say whether the place of `c` itself stays. `c`
+    /// must be useful.
     pub fn take_out_apart(&self, free: &mut NumberSet, c: Ctl)
         requires { holds (useful_controls self.now) c ≡ true }
         ensures { LosesApart self.now c free.old free.new }

@@ -1,4 +1,6 @@
--- Lemmas about the row of a control. It has the covered nets except the closed nets on which the control has no tested driver.
+-- Lemmas about the row of a control, that is, the nets that some safe setting with the control observes. The row has the covered nets,
+-- except the nets on which the control has no tested driver and which its shared nets close. A list of nets closes a covered net if each
+-- tested driver of this net has a control with a driver on a net in the list.
 use Rattle.std.proofs.Common.{◌≡◌, inl, inr, ℕ, ◌+◌, ◌/◌, ◌<◌, ◌==◌, Bool, true, false, not, ◌&&◌, ◌||◌, List, [], ◌∷◌, Contains, Decides, length, slice_index_or, nat_lt, Option, Some, None, refl, sym, ◌∙◌, ap, subst, arith, All}
 use Rattle.std.specs.Prelude.{slice_get, filter}
 use Rattle.std.specs.List.{list_any, list_all}
@@ -47,7 +49,7 @@ shares board c d differ = same_truth (drives_some board (shared_nets board c) d)
         let s : (net : Net) × (slice_get board.nets r.0 ≡ Some net) × (is_contended board d net ≡ true) = has_shares board d r.0 r.2 in
         has_any drives (shared_nets board c) r.0 r.1 (ap (drives_there board d) s.1 ∙ and_left (drives_net board d s.0) _ s.2)
 
--- control `c` enables the driver, or the driver has no control with a driver on a net that `c` shares
+-- control `c` enables the driver, or the driver has no control with a driver on a net that `c` shares with another control
 abbrev may_fit : RawBoard → Ctl → Drive → Bool
 may_fit board c d = is_by c (Some d) || not (is_by_one (drives_some board (shared_nets board c)) d)
 

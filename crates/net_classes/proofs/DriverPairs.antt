@@ -1,4 +1,5 @@
--- `first_pair` finds a tested driver of each of two nets if and only if one safe setting observes both nets.
+-- `first_pair` looks for a tested driver of each of two nets such that one safe setting enables both drivers. It finds two such drivers
+-- if and only if one safe setting observes both nets.
 use Rattle.std.proofs.Common.{◌≡◌, ℕ, Bool, true, List, [], Option, Some, None, refl, sym, ◌∙◌}
 use Rattle.std.specs.Prelude.{slice_get, find, is_some}
 use Rattle.std.proofs.lemmas.Bool.{false_from_ne_true}

@@ -113,7 +113,7 @@ adds_row board before after c number row has cell for_c e f g = record {
               (subst (AreRowBits (fits_at board (By c))) (sym row) is);
         }
 
--- a step of the loop over the useful controls: it adds the row of control number `i` and preserves the rows of the controls before it
+-- One turn of the loop over the useful controls adds the row of control number `i` and preserves the rows of the controls before it.
 pub rows_more : (board : RawBoard) (before after : PairRows) (useful : List Ctl) (i : ℕ) (c d : Ctl)
     → i < length useful → c ≡ get_or useful i c → AddsRow board before after c
     → ((d : Ctl) → Has (take i useful) d → IsRowOf board before d) → Has (take (i + 1) useful) d

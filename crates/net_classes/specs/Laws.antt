@@ -1,4 +1,4 @@
--- The laws of boards, stated for one board, and two laws about classes.
+-- The laws of boards, stated for one board. A law about the nets that two controls share, and a law about the drivers of paired nets.
 use Rattle.std.specs.Prelude.{◌≡◌, ℕ, false, List, Contains, is_some}
 use Rattle.std.specs.Bool.{Decides}
 use Rattle.board_defs.specs.declared.board.Ctl.{Ctl}
@@ -31,7 +31,8 @@ pub record SaysShared (board : RawBoard) (a b : Ctl) : Type 0 where
 abbrev pub NetsAreShared : Type 0
 NetsAreShared = (board : RawBoard) (a b : Ctl) → SaysShared board a b
 
--- `first_pair` finds a tested driver of net `a` and one of net `b` if and only if one safe setting observes both nets.
+-- `first_pair` looks for a tested driver of net `a` and one of net `b` such that one safe setting enables both drivers. It finds two such
+-- drivers if and only if one safe setting observes both nets.
 abbrev pub PairsHaveDrivers : Type 0
 PairsHaveDrivers =
     (board : RawBoard) (a b : ℕ)

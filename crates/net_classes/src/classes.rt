@@ -1,4 +1,4 @@
-// The classes of a board.
+// Computes the classes of a board, that is, what its nets, pins and controls can do in safe settings.
 ghost use Rattle.std.specs.Prelude.{IfOk};
 ghost use Rattle.net_classes.specs.Kept.{AreClasses};
 ghost use Rattle.net_pins.specs.Tables.{ArePinTables};
@@ -10,9 +10,9 @@ use net_facts::{BoardFacts, ControlClass, NetClass, NetNumbers, board_facts};
 use net_pins::{BoardPins, PinTables};
 use std::alloc::{AllocError, Global};
 
-/// The classes of a board: what its nets, pins and controls can do in safe settings. There is a class for each net and
-/// for each cell as a control. Beside them are the useful controls, the nets that each control shares with another
-/// control, and the rows of bits that say which nets are paired.
+/// The classes of a board: the facts about its nets, pins and controls that depend on safe settings. There is a class
+/// for each net and for each boundary cell, taken as a control. There are also the useful controls, the nets that each
+/// control shares with another control, and rows of bits that say which nets are paired.
 #[derive(Drop)]
 pub struct Classes {
     pub(crate) nets: Vec<NetClass>,

@@ -112,8 +112,8 @@ fn add_other_pins(
     Ok(())
 }
 
-/// Makes `others` the set of the controls that have a driver on one of `nets` and are not in `set`. `set` must have the controls with a
-/// driver on net `core`.
+/// Makes `others` the set of the controls that have a driver on one of `nets` and are not in `set`. `set` must be the
+/// set of the controls with a driver on net `core`.
 fn gather_others(
     others: &mut ControlSet,
     set: &ControlSet,
@@ -279,8 +279,9 @@ impl ClosedNets {
         })
     }
 
-    /// Returns the nets that `nets` closes. `nets` must not be empty. If one of `nets` is a bus with most of the
-    /// controls, `self` then has the nets that the bus closes, and the next call can use them.
+    /// Returns the nets that `nets` closes. `nets` must not be empty, and `self` must be made for the board of `known`.
+    /// If one of `nets` is a bus with most of the controls, `self` then has the nets that the bus closes, and the next
+    /// call can use them.
     pub fn closed_by(
         &mut self,
         alloc: Global,

@@ -27,7 +27,8 @@ fn unmark(marks: &mut [Vec<bool>], members: &[Ctl])
 }
 
 impl ControlSet {
-    /// Returns the empty set, with a mark for each cell of a table.
+    /// Returns the empty set. It has a mark for each item of the table `rows`, which must have an item for each
+    /// boundary cell of the board.
     pub(crate) fn new<S>(alloc: Global, rows: &[Vec<S>]) -> Result<ControlSet, AllocError>
         ensures { (board : RawBoard)
             → ((c : Ctl) → IsCell board c → is_some (item_of_cell (table rows.now) c) ≡ true)

@@ -15,8 +15,8 @@ use net_facts::{BoardFacts, NetClass, NetNumbers, PinFacts};
 use std::alloc::{AllocError, Global};
 use std::marker::Model;
 
-/// A board with the facts about its nets and controls, and the first tested driver of each net. Contracts see it
-/// as the board with the table of its controls.
+/// A board with the facts about its nets and controls, and the first tested driver of each net. Its value in contracts
+/// is the board with the table of its controls.
 #[derive(Drop)]
 pub struct Known<'a> {
     board: &'a Board,
@@ -88,7 +88,7 @@ impl<'a> Known<'a> {
         })
     }
 
-    /// Does nothing. Its contract says that the board keeps the rules of boards, and that the table has the class of
+    /// Does nothing. Its contract says that the board meets the rules of boards, and that the table has the class of
     /// each control.
     pub fn laws(&self)
         ensures { IsKnown self.now }
@@ -103,7 +103,8 @@ impl<'a> Known<'a> {
         self.board.raw().nets.len() as u32
     }
 
-    /// Returns a table with an item for each cell of the board.
+    /// Returns a table with an item for each boundary cell of the board. The contract says nothing about the items, so
+    /// a caller can use the table only as a pattern for a table of the same size.
     pub fn cells(&self) -> &[Vec<NetNumbers>]
         ensures { (c : Ctl) → IsCell self.now.board c
             → is_some (item_of_cell (table result.now) c) ≡ true }

@@ -1,4 +1,5 @@
-//! Laws of the classes. Each function does nothing, and its contract is the law.
+//! Laws about the nets that two controls share, and about the drivers of paired nets. Each function does nothing, and
+//! its contract is the law.
 ghost use Rattle.net_classes.specs.Laws.{NetsAreShared, PairsHaveDrivers};
 
 /// Two controls have drivers on one net if and only if their lists of driven nets have a number in common. For two
@@ -8,7 +9,8 @@ pub fn nets_are_shared()
     ensures { NetsAreShared }
 {}
 
-/// `first_pair` finds a tested driver of each of two nets if and only if one safe setting observes both nets.
+/// `first_pair` looks for a tested driver of each of two nets such that one safe setting enables both drivers. It finds
+/// two such drivers if and only if one safe setting observes both nets.
 pub fn pairs_have_drivers()
     ensures { PairsHaveDrivers }
 {}

@@ -1,9 +1,10 @@
 //! The classes of a board: what its nets, pins and controls can do in some safe setting.
 //!
-//! [`classify`] makes the classes once, or [`classify_by`] if the caller has the board's pin tables.
-//! [`BoardClasses`] is a board with its classes. It answers which nets are covered and why a net is not covered,
-//! which pins are tested, which controls are useful, which two drivers one safe setting enables, and which nets are
-//! paired, 64 at a time. `net_facts` finds the facts about a single net, pin or control.
+//! [`classify`] computes the classes of a board. [`classify_by`] does the same for a caller that has the board's pin
+//! tables already. [`BoardClasses`] is a board with its classes. It answers which nets are covered and why a net is not
+//! covered, which pins are tested, which controls are useful, whether one safe setting enables two given drivers, and
+//! which nets are paired with a given net, 64 at a time. `net_facts` finds the facts about a single net, pin or
+//! control.
 #![tactic(auto)]
 
 mod classes;

@@ -6,7 +6,7 @@ use crate::words::put_bit;
 use std::alloc::{AllocError, Global};
 use std::marker::Model;
 
-/// A bit for each net, 64 to a word. Contracts see the row as the list of its words.
+/// A bit for each net, 64 to a word. Its value in contracts is the list of its words.
 #[derive(Drop)]
 pub struct NetRow {
     words: Vec<u64>,

@@ -1,4 +1,5 @@
-// A board with its classes, which answers questions about its nets, pins and controls.
+// A board with its classes, which answers questions about its nets, pins and controls. The classes say what these can
+// do in safe settings.
 ghost use Rattle.std.specs.Prelude.{◌≡◌, ◌≢◌, ◌↔◌, ◌<◌, ◌≤◌, ◌||◌, ℕ, Some, false, true, not, length, slice_get, All, IsTrue, MatchOption};
 ghost use Rattle.board_defs.specs.BoardRules.{IsBoard};
 ghost use Rattle.board_defs.specs.Limits.{most_nets};
@@ -21,8 +22,8 @@ use board_defs::{Board, Ctl, Drive, PinRef, RawBoard, Reason, law, place_in};
 use net_facts::{ControlClass, NetClass, PinClass, meet};
 use std::marker::Model;
 
-/// A board with its classes. It answers questions about its nets, pins and controls without allocating memory. Contracts see it as the
-/// board.
+/// A board with its classes. It answers questions about its nets, pins and controls without allocating memory. Its
+/// value in contracts is the board.
 #[derive(Drop)]
 pub struct BoardClasses<'a> {
     board: &'a Board,
@@ -49,7 +50,7 @@ impl<'a> BoardClasses<'a> {
         BoardClasses { board, classes }
     }
 
-    /// Returns the record of the board, which keeps the rules of boards.
+    /// Returns the record of the board. The record meets the rules of boards.
     pub fn raw(&self) -> &'a RawBoard
         ensures value { result.now ≡ self.now }
         ensures rules { IsBoard self.now }
@@ -74,7 +75,7 @@ impl<'a> BoardClasses<'a> {
         self.raw().nets.as_slice().len()
     }
 
-    /// Returns the class of the control, which must be a boundary cell of the board.
+    /// Returns the facts about the control, which must be a boundary cell of the board.
     fn control(&self, c: Ctl) -> &'a ControlClass
         requires { IsCell self.now c }
         ensures { result.now ≡ control_class_of self.now c }
@@ -82,7 +83,7 @@ impl<'a> BoardClasses<'a> {
         &self.classes.controls[c.part as usize][c.cell as usize]
     }
 
-    /// Returns the class of the net, which must be on the board.
+    /// Returns the facts about the net that depend on safe settings. The board must have a net with this number.
     fn net(&self, net: u32) -> &'a NetClass
         requires { net < length self.now.nets }
         ensures { HoldsOfNet self.now net (λ found. result.now ≡ net_class_of self.now found) }
@@ -190,8 +191,8 @@ impl<'a> BoardClasses<'a> {
         }
     }
 
-    /// Returns the nets that are paired with `net` among the 64 nets from `64 * word` on: bit `i` is for net
-    /// `64 * word + i`. The bit of `net` itself is set if `net` is covered. A bit past the last net is 0.
+    /// Returns 64 bits that say which nets are paired with `net`. Bit `i` is 1 if net `64 * word + i` is paired with
+    /// `net`. The bit of `net` itself is set if `net` is covered. A bit past the last net is 0.
     pub fn paired_word(&self, net: usize, word: usize) -> u64
         ensures { AreWordBits (pairs_with self.now net) word result }
     {
@@ -203,7 +204,8 @@ impl<'a> BoardClasses<'a> {
         bits
     }
 
-    /// Like `paired_word`, but returns the covered nets that are not paired with `net`.
+    /// Like `paired_word`, but bit `i` is 1 if net `64 * word + i` is covered and no safe setting observes it together
+    /// with `net`.
     pub fn unpaired_word(&self, net: usize, word: usize) -> u64
         ensures { AreWordBits (unpaired_with self.now net) word result }
     {
@@ -228,7 +230,7 @@ impl<'a> BoardClasses<'a> {
 
 // Six questions for callers that have a board and its classes. In each call, the classes must be those of the board,
 // and the board must have the nets, pins and cells that the call names. Each contract also says what the answer means
-// over all safe settings. The crates above use `BoardClasses` and call none of these functions.
+// in terms of all safe settings. The crates above use `BoardClasses` and call none of these functions.
 impl Classes {
     /// Returns the first reason why the net is not covered, or None if it is covered.
     pub fn reason(&self, board: &Board, net: u32) -> Option<Reason>

@@ -1,4 +1,5 @@
--- From the facts about a net and the table of controls, the code finds the class that the definitions on the board give the net.
+-- Lemmas about the class of a net, which the code computes from the facts about the net and from the table of controls. It is the class
+-- that `net_class_of` defines.
 use Rattle.std.proofs.Common.{◌≡◌, ℕ, ◌==◌, Bool, true, false, not, ◌&&◌, List, [], ◌∷◌, map, length, Option, Some, None, refl, sym, ◌∙◌, ap, subst, cond, inl}
 use Rattle.std.specs.Prelude.{slice_get, option_map, filter_map, is_some}
 use Rattle.std.specs.List.{list_any, range_with_len, cons_option}

@@ -18,7 +18,7 @@ use Rattle.net_facts.specs.declared.classes.BoardFacts.{BoardFacts}
 use Rattle.net_facts.specs.Cells.{item_of_cell, table}
 use Rattle.net_facts.specs.Facts.{net_facts_of}
 
--- there is a net, and control `c` enables a driver on it
+-- there is a net, and control `c` controls a driver of it
 abbrev pub drives_there : RawBoard → Ctl → Option Net → Bool
 drives_there board c None = false
 drives_there board c (Some net) = drives_net board c net
@@ -59,7 +59,8 @@ pin_class_of board net place =
           (slice_get net.pins place);
     }
 
--- the reason why a net is not covered, if it is not, its tested drivers, and the classes of its pins
+-- The class of a net has the reason why the net is not covered, or None if it is covered. It also says how the net's tested drivers are
+-- enabled, and has the class of each pin.
 abbrev pub net_class_of : RawBoard → Net → NetClass
 net_class_of board net =
     record {
@@ -73,8 +74,8 @@ net_class_of board net =
 abbrev pub control_class_of : RawBoard → Ctl → ControlClass
 control_class_of board c = record { nets = driven_nets board c; safe = is_safe_alone board c; useful = is_useful board c }
 
--- `known` has the facts and the class of each net, the class of each control, the useful controls, and the nets that each control shares
--- with another control
+-- `known` has the facts about each net (`net_facts_of` and `net_class_of`) and about each control (`control_class_of`), the useful
+-- controls, and the nets that each control shares with another control.
 pub record AreBoardFacts (board : RawBoard) (known : BoardFacts) : Type 0 where
   pub facts_are : known.facts.items ≡ map (net_facts_of board) board.nets
   pub nets_are : known.nets.items ≡ map (net_class_of board) board.nets

@@ -34,7 +34,7 @@ pub struct NetClass {
     pub reason: Option<Reason>,
     /// The ways in which the net's tested drivers are enabled, in pin order.
     pub drivers: Few<Drive>,
-    /// The classes of the pins, in pin order.
+    /// The facts about the net's pins, in pin order.
     pub pins: Few<PinClass>,
 }
 

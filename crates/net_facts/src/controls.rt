@@ -24,8 +24,8 @@ fn is_last(nets: &[u32], net: u32) -> bool
     }
 }
 
-/// Adds one more driver of the control, on net number `net`. `closed` says that no control may enable a driver of this
-/// net.
+/// Records in `row` that its control has one more driver, on net number `net`. Marks the control as unsafe if it now
+/// has two drivers on this net, or if `closed` is true. `closed` says that no control may enable a driver of this net.
 fn add(row: &mut ControlClass, net: u32, closed: bool) -> Result<(), AllocError>
     ensures { OnOk result (row.new ≡ with_one_driver net closed row.old) }
 {

@@ -14,7 +14,7 @@ use std::alloc::{AllocError, Global};
 /// The facts about a pin that do not depend on settings.
 #[derive(Clone, Copy)]
 pub struct PinFacts {
-    /// The place of the pin in the chain. Only pins of described parts have one.
+    /// The part and the port bit of the pin, or None if the pin's part is not described.
     pub at: Option<PinAt>,
     /// The way in which the pin's driver is enabled, or None if the pin is not a driver.
     pub drive: Option<Drive>,
@@ -43,8 +43,8 @@ pub struct NetFacts {
     pub pins: Few<PinFacts>,
 }
 
-// Returns whether the net has a pin of a test access port or of compliance patterns. An unguarded net has no such pin,
-// so the function looks only at the pins of a guarded net.
+// Returns whether the net is guarded and has a pin of a test access port or a pin that compliance patterns name. An
+// unguarded net has no such pin, so the function looks only at the pins of a guarded net.
 fn has_test_pin(board: &BoardPins<'_>, guarded: bool, pins: &[NetPin]) -> bool
     ensures { result ≡ (guarded && list_any (is_test_pin board.now) pins.now) }
 {

@@ -1,4 +1,4 @@
-// The places at which the items of a list satisfy a predicate, and the numbers that two lists have in common.
+// The places at which the items of a list satisfy a predicate, and a test whether two lists have a number in common.
 ghost use Rattle.std.specs.Prelude.{◌≡◌, ◌↔◌, IsTrue, if◌then◌else◌};
 ghost use Rattle.net_facts.specs.Found.{IsAscending, Meet};
 ghost use Rattle.net_facts.specs.inner.Found.{is_elsewhere_of, found_with};

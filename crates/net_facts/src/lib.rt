@@ -9,7 +9,8 @@
 //! - for each control: the nets that it shares with another control. Two controls that are safe alone can be unsafe
 //!   together only if they share a net.
 //!
-//! The crate `net_classes` answers what one setting can do with two nets or two controls.
+//! The crate `net_classes` answers whether one safe setting observes two nets, and whether the setting of two controls
+//! is safe.
 #![tactic(auto)]
 
 mod cells;

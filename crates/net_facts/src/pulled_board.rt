@@ -1,4 +1,6 @@
-// A board with tables of the port bits that are on pulled nets. These port bits decide which drivers are one-sided.
+// A board with tables of the port bits that are on pulled nets. The tables decide which drivers are one-sided: a driver
+// whose control is its own cell is one-sided unless it is on an unguarded net that is pulled to the driver's disable
+// value.
 ghost use Rattle.std.specs.Prelude.{◌≡◌, ◌<◌, length, map, option_and_then, IfOk};
 ghost use Rattle.board_defs.specs.BoardRules.{IsBoard};
 ghost use Rattle.board_defs.specs.Decided.{is_switching, own_control, own_where, count_port_bits};
@@ -12,7 +14,7 @@ use net_pins::BoardPins;
 use std::alloc::{AllocError, Global};
 use std::marker::Model;
 
-/// A board with the port bits whose pins are on unguarded nets with a pull. Contracts see it as the board.
+/// A board with the port bits whose pins are on unguarded nets with a pull. Its value in contracts is the board.
 #[derive(Drop)]
 pub struct PulledBoard<'a, 'b> {
     board: &'a BoardPins<'b>,
@@ -78,7 +80,7 @@ impl<'a, 'b> PulledBoard<'a, 'b> {
         Ok(PulledBoard { board, low, high })
     }
 
-    /// Returns the record of the board, which keeps the rules of boards.
+    /// Returns the record of the board. The record meets the rules of boards.
     pub fn raw(&self) -> &'b RawBoard
         ensures value { result.now ≡ self.now }
         ensures rules { IsBoard self.now }

@@ -159,7 +159,7 @@ fn push_some(
     Ok(())
 }
 
-/// The classes of a net's pins, and the ways in which its tested drivers are enabled.
+/// The facts about a net's pins, and the ways in which its tested drivers are enabled.
 struct TestedPins {
     classes: Few<PinClass>,
     drivers: Few<Drive>,
@@ -202,7 +202,7 @@ fn has_enabled(rows: &[Vec<ControlClass>], pins: &[PinFacts]) -> bool
     pins.iter().any(|pin| can_enable(rows, pin.drive))
 }
 
-/// Returns the first reason that applies to the net, which must not be covered.
+/// Returns the first reason that applies to a net that is not covered.
 fn first_reason(rows: &[Vec<ControlClass>], net: &NetFacts) -> Reason
     ensures { result ≡ first_reason_in (table rows.now) net.now }
 {
@@ -248,7 +248,8 @@ fn net_class(
     })
 }
 
-/// Returns the classes of the nets, in net order.
+/// Returns the facts about the nets that depend on safe settings, in net order. Computes them from `rows`, the table of
+/// controls, and `nets`, the facts that do not depend on settings.
 pub fn net_classes(
     alloc: Global,
     rows: &[Vec<ControlClass>],

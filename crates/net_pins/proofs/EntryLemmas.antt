@@ -1,4 +1,5 @@
--- The entries of a port bit: the receiving ones give the compared cells of its pin, and each entry belongs to a cell of the bit's part.
+-- Lemmas about the entries of a port bit. The INPUT, CLOCK and BIDIR entries give the compared cells of its pin. Each entry belongs to a
+-- boundary cell of the bit's part.
 use Rattle.std.proofs.Common.{◌≡◌, ℕ, ◌<◌, Bool, true, false, cond, ◌&&◌, ◌||◌, List, [], ◌∷◌, map, Option, Some, None, refl, ap, ◌∙◌, arith}
 use Rattle.std.specs.Prelude.{slice_get, option_and_then, filter, All}
 use Rattle.std.specs.List.{list_any}

@@ -1,5 +1,5 @@
--- Item `n` of a board's table of drivers has the drivers of net `n`, and item `n` of its table of compared cells has the compared cells of
--- the net.
+-- Item `n` of a board's table of drivers has the drivers of net `n`, or none if the net is guarded. Item `n` of its table of compared
+-- cells has the compared cells of net `n`.
 use Rattle.std.proofs.Common.{◌≡◌, ℕ, List, [], map, get_or, Some, ap, ◌∙◌}
 use Rattle.std.specs.Prelude.{slice_get}
 use Rattle.std.proofs.lemmas.List.{get_or-map}

@@ -44,7 +44,7 @@ observer n setting = option_map (λ d. d.place) (observer_on nets (holds setting
 whole : enabled_on nets (holds (c 1 1 ∷ [])) 0 ≡ Some (record { place = 1; ctl = Some (c 1 1); own = c 1 0; position = 1 })
 whole = refl
 
--- A setting enables the driver whose control it has. If it has the controls of both drivers, the first driver in pin order counts.
+-- A setting enables the driver whose control it has. If it has the controls of both drivers, the result is the first driver in pin order.
 controlled : map (enabled 0) ([] ∷ (c 0 1 ∷ []) ∷ (c 1 1 ∷ []) ∷ (c 1 1 ∷ c 0 1 ∷ []) ∷ [])
     ≡ None ∷ Some 0 ∷ Some 1 ∷ Some 0 ∷ []
 controlled = refl
@@ -53,14 +53,15 @@ controlled = refl
 not_controlled : map (enabled 0) ((c 0 0 ∷ []) ∷ (c 2 1 ∷ []) ∷ []) ≡ None ∷ None ∷ []
 not_controlled = refl
 
--- every setting enables an always-on driver, but does not observe a net without a compared cell
+-- every setting enables the always-on driver of net 3, but no setting observes net 3, since it has no compared cell
 always_on : map (enabled 3) ([] ∷ (c 0 1 ∷ []) ∷ []) ≡ Some 0 ∷ Some 0 ∷ []
 always_on = refl
 
 not_read : observer 3 [] ≡ None
 not_read = refl
 
--- the driver of the bidirectional pin is not read beside its own pin, and the other driver is read on this pin
+-- Only the bidirectional pin of net 1 has a compared cell. So a setting does not observe the net by this pin's own driver, but observes
+-- it by the other driver.
 both_ways : map (observer 1) ((c 0 1 ∷ []) ∷ (c 1 1 ∷ []) ∷ []) ≡ None ∷ Some 1 ∷ []
 both_ways = refl
 

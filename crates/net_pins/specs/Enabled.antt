@@ -1,4 +1,4 @@
--- The driver that a setting enables on a net, and the cells that read the net.
+-- The driver that a setting enables on a net, and the driver by which a setting observes a net.
 use Rattle.std.specs.Prelude.{ℕ, ◌==◌, Bool, true, not, cond, find, List, [], Option, Some, None, option_and_then, slice_index_or}
 use Rattle.std.specs.List.{list_any}
 use Rattle.board_defs.specs.declared.board.Ctl.{Ctl}
@@ -20,7 +20,8 @@ enabled_in setting drivers = find (λ d. is_driver_on setting d.ctl) drivers
 abbrev pub is_read_beside : List ReaderCell → NetDriver → Bool
 is_read_beside readers d = list_any (λ r. not (r.place == d.place)) readers
 
--- the driver by which a setting observes a net: the first driver that it enables, if another pin has a compared cell
+-- The driver by which a setting observes a net: the first driver that the setting enables. None if the setting enables no driver, or if
+-- no other pin of the net has a compared cell.
 abbrev pub observing_of : Enabling → List NetDriver → List ReaderCell → Option NetDriver
 observing_of setting drivers readers = option_and_then (λ d. cond (is_read_beside readers d) (Some d) None) (enabled_in setting drivers)
 
@@ -32,11 +33,11 @@ drivers_on nets n = slice_index_or nets.drivers n []
 abbrev pub readers_on : NetTables → ℕ → List ReaderCell
 readers_on nets n = slice_index_or nets.readers n []
 
--- The driver that a setting enables on net n, or None if the net is guarded. Every setting also enables the always-on drivers of guarded
--- nets, but no test uses them.
+-- The first driver of net n that the setting enables, if there is one. None if the net is guarded: every setting enables the always-on
+-- drivers of such a net, but no setting observes the net by them.
 abbrev pub enabled_on : NetTables → Enabling → ℕ → Option NetDriver
 enabled_on nets setting n = enabled_in setting (drivers_on nets n)
 
--- the driver by which a setting observes net n
+-- the driver by which the setting observes net n, or None if the setting does not observe the net
 abbrev pub observer_on : NetTables → Enabling → ℕ → Option NetDriver
 observer_on nets setting n = observing_of setting (drivers_on nets n) (readers_on nets n)

@@ -1,5 +1,5 @@
--- The cells that drive and read each net. A compared cell is a cell of a receiver whose entry is INPUT, CLOCK or BIDIR: a test compares
--- the bit that it captures.
+-- The cells that drive and read each net. A compared cell is a boundary cell that has an INPUT, CLOCK or BIDIR entry for the port bit of
+-- a receiver. A test compares the bit that such a cell captures.
 use Rattle.std.specs.Prelude.{ℕ, suc, ◌+◌, cond, List, [], ◌∷◌, ◌++◌, map, filter, Option, Some, None, option_map}
 use Rattle.board_defs.specs.declared.device.Cell.{Cell}
 use Rattle.board_defs.specs.declared.device.RawDevice.{RawDevice}
@@ -40,7 +40,7 @@ abbrev pub driver_of : RawBoard → ℕ → Option PinAt → Option NetDriver
 driver_of board place None = None
 driver_of board place (Some at) = option_map (net_driver board at.part place) (entry_at board at)
 
--- the drivers of a net, in pin order
+-- the drivers of a net with these pins, in pin order, whether the net is guarded or not
 abbrev pub drivers_of_pins : RawBoard → List NetPin → List NetDriver
 drivers_of_pins board pins = gathered (λ place pin. optional (driver_of board place pin.at)) 0 pins
 
@@ -49,11 +49,11 @@ drivers_of_pins board pins = gathered (λ place pin. optional (driver_of board p
 abbrev pub drivers_of : RawBoard → Net → List NetDriver
 drivers_of board net = cond (guarded board net) [] (drivers_of_pins board net.pins)
 
--- the compared cell with this entry of part `part`, for the pin at `place`
+-- the compared cell that has this entry of part `part`; `place` is the place of its pin in the net
 abbrev pub reader_cell : RawBoard → ℕ → ℕ → Cell → ReaderCell
 reader_cell board part place cell = record { place = place; position = first_position board part + cell.num }
 
--- the compared cells of the port bit at `at`, for the pin at `place`
+-- the compared cells of the port bit at `at`, which belongs to this device; `place` is the place of its pin in the net
 abbrev pub readers_in : RawBoard → ℕ → PinAt → Option RawDevice → List ReaderCell
 readers_in board place at None = []
 readers_in board place at (Some device) = map (reader_cell board at.part place) (filter (reads_bit at.bit) device.cells)

@@ -9,8 +9,8 @@ use Rattle.net_pins.specs.declared.pins.NetPins.{NetPins}
 use Rattle.net_pins.specs.Positions.{AreFirsts}
 use Rattle.net_pins.specs.NetCells.{all_drivers, all_readers}
 
--- The tables have the first position and the entries of each part of the board, and a flag for each net that says whether the net is
--- guarded.
+-- The tables have the position of each part's first bit in data scans, the entries of each port bit, and a flag for each net that says
+-- whether the net is guarded.
 pub record ArePinTables (board : RawBoard) (tables : PinTables) : Type 0 where
   pub firsts : AreFirsts board.chain tables.firsts
   pub entries : AreEntries board tables.entries

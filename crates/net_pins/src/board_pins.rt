@@ -14,7 +14,7 @@ use lists::is_set;
 use port_entries::{driving_entry, entries_at, has_dark_pin, receives};
 use std::marker::Model;
 
-/// A board with its pin tables. Contracts see it as the board. The tables answer a question about a pin without a
+/// A board with its pin tables. Its value in contracts is the board. The tables answer a question about a pin without a
 /// search through all cells of its part.
 #[derive(Drop)]
 pub struct BoardPins<'a> {
@@ -42,7 +42,7 @@ impl<'a> BoardPins<'a> {
         BoardPins { board, tables }
     }
 
-    /// Returns the record of the board, which keeps the rules of boards.
+    /// Returns the record of the board. The record meets the rules of boards.
     pub fn raw(&self) -> &'a RawBoard
         ensures value { result.now ≡ self.now }
         ensures rules { IsBoard self.now }
@@ -57,7 +57,8 @@ impl<'a> BoardPins<'a> {
         is_set(self.tables.guarded.as_slice(), net)
     }
 
-    /// Returns the entries of the port bit at `at`, in the order of the device's list of entries.
+    /// Returns the entries of the port bit at `at`, in the order of the device's list of entries. Returns no entries if
+    /// the part has no such port bit.
     pub fn entries(&self, at: PinAt) -> &'a [Cell]
         ensures { result.now ≡ entries_of (device_at self.now at.part) at.bit }
     {

@@ -1,9 +1,11 @@
-//! The cells on the nets of a board, collected once for its classes and its plan.
+//! The boundary cells that drive and read the nets of a board. They are collected once, so that a question about a pin
+//! or a net needs no search through all cells of a part.
 //!
-//! [`PinTables`] has the entries of each port bit, the position of each part in data scans, and the guarded nets.
-//! [`BoardPins`] is a board with these tables, and answers questions about its pins. [`NetTables`] has the compared
-//! cells of each net and the drivers of each unguarded net. It answers which driver of an unguarded net a setting
-//! enables, and by which driver the setting observes the net. [`NetPins`] has the tables of both kinds.
+//! [`PinTables`] has the entries of each port bit, the position of each part's first bit in data scans, and the guarded
+//! nets. [`BoardPins`] is a board with these tables, and answers questions about its pins. [`NetTables`] has the
+//! compared cells of each net and the drivers of each unguarded net. It answers which driver of an unguarded net a
+//! setting enables (the first one in pin order), and by which driver a setting observes a net. [`NetPins`] has the
+//! tables of both kinds.
 #![tactic(auto)]
 
 mod board_pins;

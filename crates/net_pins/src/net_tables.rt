@@ -11,8 +11,8 @@ use crate::readers::all_readers;
 use board_defs::{Items, Setting};
 use std::alloc::{AllocError, Global};
 
-/// The drivers and the compared cells of each net of a board. Every setting enables the always-on drivers of a guarded
-/// net, but no setting observes the net by them, so the tables leave out all drivers of guarded nets.
+/// The drivers and the compared cells of each net of a board. The tables leave out the drivers of guarded nets, because
+/// no setting observes a guarded net. Every setting still enables the always-on drivers of such a net.
 #[derive(Drop)]
 pub struct NetTables {
     /// For each net, its drivers in pin order. The list of a guarded net is empty.
@@ -81,17 +81,18 @@ impl NetTables {
         items_at(self.readers.as_slice(), net)
     }
 
-    /// Returns the first driver of an unguarded net that the setting enables, if there is one. A safe setting enables
-    /// at most one driver of the net. Returns `None` for a guarded net, although the setting enables its always-on
-    /// drivers.
+    /// Returns the first driver of an unguarded net, in pin order, that the setting enables, if there is one. A safe
+    /// setting enables at most one driver of the net. Returns `None` for a guarded net, although the setting enables
+    /// its always-on drivers.
     pub fn enabled(&self, setting: &Setting, net: u32) -> Option<NetDriver>
         ensures { result ≡ enabled_on self.now (holds setting.now) net }
     {
         enabled(self.drivers(net), setting)
     }
 
-    /// Returns the driver by which a setting observes a net, if there is one: the first driver that the setting
-    /// enables, if another pin of the net has a compared cell. No setting observes a guarded net.
+    /// Returns the driver by which a setting observes a net. This is the first driver of the net, in pin order, that
+    /// the setting enables. Returns `None` if the setting enables no driver of the net, if no other pin of the net has
+    /// a compared cell, or if the net is guarded.
     pub fn observer(&self, setting: &Setting, net: u32) -> Option<NetDriver>
         ensures { result ≡ observer_on self.now (holds setting.now) net }
     {

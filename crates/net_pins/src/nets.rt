@@ -1,5 +1,5 @@
-// The cells that drive and read each net. A compared cell is a cell of a receiver whose entry is INPUT, CLOCK or BIDIR:
-// a test compares the bit that it captures.
+// The cells that drive and read each net. A compared cell is a boundary cell that has an INPUT, CLOCK or BIDIR entry
+// for the port bit of a receiver. A test compares the bit that such a cell captures.
 ghost use Rattle.std.specs.Prelude.{◌≡◌, ◌<◌, ◌≤◌, ◌++◌, length, map, filter, Some, IfOk, OnOk, All};
 ghost use Rattle.board_defs.specs.Limits.{most_pins};
 ghost use Rattle.board_defs.specs.DeviceRules.{is_receiving};
@@ -13,8 +13,8 @@ use crate::board_pins::BoardPins;
 use board_defs::{Cell, Ctl, Items, Net, NetPin, PinAt, RawBoard, Setting};
 use std::alloc::{AllocError, Global};
 
-/// A driver of a net: the place of its pin in the net, its control if it has one, its own cell, and the position of
-/// this cell in data scans.
+/// A driver of a net: the place of its pin in the net, its control if it has one, the cell of its driving entry
+/// (`own`), and the position of this cell in data scans.
 #[derive(Clone, Copy)]
 pub struct NetDriver {
     pub place: u32,
@@ -129,7 +129,8 @@ pub fn drivers_of(
     drivers_of_pins(alloc, board, net.pins.as_slice())
 }
 
-// Appends the compared cells of these entries of a port bit. The part must have the entries' cells.
+// Appends a compared cell for each INPUT, CLOCK and BIDIR entry among these entries of a port bit. `place` is the place
+// of the port bit's pin in its net. The part must have the entries' cells.
 fn push_readers(
     board: &BoardPins<'_>,
     part: u32,

@@ -16,8 +16,8 @@ pub struct PinTables {
     /// The entries of each port bit of each part.
     pub entries: Items<Items<BitEntries>>,
     /// A flag for each net, which is true if the net is guarded. No safe setting enables a controlled or a one-sided
-    /// driver of a guarded net. Every setting enables the net's always-on drivers, but no setting observes the net by
-    /// them, so `NetTables` leaves them out.
+    /// driver of a guarded net. No setting observes a guarded net, so `NetTables` leaves out all its drivers, even
+    /// those that are always on.
     pub guarded: Items<bool>,
 }
 

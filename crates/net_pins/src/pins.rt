@@ -1,4 +1,4 @@
-// The cells on each net of a board.
+// The pin tables of a board, with the drivers and the compared cells of its nets.
 ghost use Rattle.std.specs.Prelude.{IfOk};
 ghost use Rattle.net_pins.specs.Tables.{AreNetPins, ArePinTables};
 
@@ -8,7 +8,7 @@ use crate::pin_tables::PinTables;
 use board_defs::Board;
 use std::alloc::{AllocError, Global};
 
-/// The pin tables of a board, and the cells on each of its nets.
+/// The pin tables of a board, and the drivers and the compared cells of each net.
 #[derive(Drop)]
 pub struct NetPins {
     /// The positions of the parts, the entries of the port bits, and the guarded nets.
@@ -18,7 +18,7 @@ pub struct NetPins {
 }
 
 impl NetPins {
-    /// Returns the pin tables of the board, and the cells on each of its nets.
+    /// Makes the pin tables of the board, and collects the drivers and the compared cells of each net.
     pub fn new(alloc: Global, board: &Board) -> Result<NetPins, AllocError>
         ensures { IfOk result (λ pins. AreNetPins board.now pins) }
     {

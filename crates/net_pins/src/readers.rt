@@ -24,7 +24,7 @@ fn readers_of_nets(
     Ok(Items::of(readers))
 }
 
-/// Returns, for each net, the compared cells.
+/// Returns, for each net, its compared cells in pin order. A guarded net has its compared cells, too.
 pub fn all_readers(
     alloc: Global,
     board: &BoardPins<'_>,

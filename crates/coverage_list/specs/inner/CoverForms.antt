@@ -1,4 +1,5 @@
--- The coverage list in the form in which the code writes it: one text for each net number, joined in order.
+-- The sections of the coverage list in the form in which the code writes them. A section consists of one text for each net number, joined
+-- in order.
 use Rattle.std.specs.Prelude.{ℕ, ◌+◌, ◌-◌, Bool, not, ◌&&◌, List, [], length, Option, None, Some, slice_get, cond}
 use Rattle.std.specs.List.{flat_map, range_with_len}
 use Rattle.board_defs.specs.declared.board.Net.{Net}
@@ -9,7 +10,7 @@ use Rattle.coverage_list.specs.declared.lines.Section.{Section}
 use Rattle.coverage_list.specs.declared.lines.Section.TheVariants.{Reasons, Untested, Pairs}
 use Rattle.coverage_list.specs.CoverText.{is_untested, reason_line, reason_lines, pin_line, pin_lines, pair_line, pair_lines}
 
--- the texts of the numbers `n..count`, joined in order
+-- the texts that `text` gives for the numbers `n..count`, joined in order
 abbrev pub texts_from : (ℕ → List ℕ) → ℕ → ℕ → List ℕ
 texts_from text n count = flat_map text (range_with_len n (count - n))
 

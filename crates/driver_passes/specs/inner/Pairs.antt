@@ -13,8 +13,8 @@ use Rattle.driver_passes.specs.inner.Progress.{EnableTested}
 use Rattle.driver_passes.specs.Useful.{HoldUseful}
 use Rattle.driver_passes.specs.inner.Shown.{AreShownRows, AreShownByAll, IsColumn}
 
--- The state of a `Pairing`. The passes so far enable each tested driver and hold only useful controls. Each row has the nets that its pass
--- shows, and the column has one word of each row. `always` has the nets that all passes show, and `left` has room for each net.
+-- The state of a `Pairing`. The passes so far enable each tested driver and have only useful controls. Each row has the nets that its
+-- pass shows, and the column has one word of each row. `always` has the nets that all passes show, and `left` has room for each net.
 pub record ArePairing (board : RawBoard) (pairing : Pairing) : Type 0 where
   pub rows : AreShownRows board pairing.passes.items pairing.rows.items
   pub column : IsColumn pairing.rows.items pairing.column

@@ -1,5 +1,5 @@
--- The passes that are made so far, with the controls that they hold and the nets that they show. A pass shows a net if it enables a tested
--- driver of the net.
+-- The passes that are made so far, with the controls that they have and the nets that they show. A pass shows a net if it enables a
+-- tested driver of the net.
 use Rattle.std.specs.Prelude.{◌≡◌, ◌<◌, ◌+◌, ◌/◌, ℕ, Bool, true, List, drop, length, Some, slice_get, Contains}
 use Rattle.std.specs.List.{flat_map, list_any}
 use Rattle.board_defs.specs.declared.board.Ctl.{Ctl}
@@ -22,7 +22,7 @@ pub record AreHeld (board : RawBoard) (passes : List (List Ctl)) (held : List �
   pub held_length : length held ≡ length (useful_controls board) / 64 + 1
   pub held_are : (i : ℕ) (c : Ctl) → slice_get (useful_controls board) i ≡ Some c → is_in held i ≡ is_held passes c
 
--- The state of a `Progress`. The passes so far hold only useful controls, `held` has the places of these controls, and each row has the
+-- The state of a `Progress`. The passes so far have only useful controls, `held` has the places of these controls, and each row has the
 -- nets that its pass shows.
 pub record IsProgress (board : RawBoard) (progress : Progress) : Type 0 where
   pub held : AreHeld board progress.passes.items progress.held

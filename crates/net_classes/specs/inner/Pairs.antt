@@ -1,5 +1,5 @@
--- Predicates on a driver's control (the control is a cell of the board, or is useful), and lists with drivers that one safe setting enables
--- together.
+-- Definitions that say whether a driver's control is a cell of the board, whether it is useful, and whether one safe setting enables a
+-- driver of each of two lists.
 use Rattle.std.specs.Prelude.{◌≡◌, Bool, true, List}
 use Rattle.std.specs.List.{list_any}
 use Rattle.board_defs.specs.declared.board.Ctl.{Ctl}

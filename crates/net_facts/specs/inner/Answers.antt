@@ -1,4 +1,5 @@
--- The class of a net, as the code finds it from the facts about the net and the table of controls.
+-- The class of a net, that is, its reason, its tested drivers and the classes of its pins. The code computes the class from the facts
+-- about the net and from the table of controls.
 use Rattle.std.specs.Prelude.{ℕ, ◌==◌, Bool, true, false, not, ◌&&◌, List, map, filter_map, length, Option, Some, None, slice_get, is_some, cond}
 use Rattle.std.specs.List.{list_any, range_with_len}
 use Rattle.board_defs.specs.declared.board.Ctl.{Ctl}

@@ -21,8 +21,8 @@ is_net_number n (Some x) = x == n
 abbrev pub ends_with : List ℕ → ℕ → Bool
 ends_with nets n = is_net_number n (slice_get nets (length nets - 1))
 
--- The control with one more driver, on net `n`. The control becomes unsafe if it already has a driver on net `n`, or if the net is
--- closed: no control may enable a driver of it.
+-- The control with one more driver, on net `n`. The control becomes unsafe if it already has a driver on net `n`, or if `closed` is true,
+-- that is, no control may enable a driver of the net.
 abbrev pub with_one_driver : ℕ → Bool → ControlClass → ControlClass
 with_one_driver n closed row =
     cond (ends_with row.nets n) (record row { safe = false })

@@ -1,4 +1,4 @@
--- The nets that controls share, as the code finds them from the facts about the nets.
+-- The nets that have drivers of two or more controls, as the code finds them from the facts about the nets.
 use Rattle.std.specs.Prelude.{ℕ, Bool, true, false, List, map, fold, filter, Option, Some, None, slice_index_or, cond}
 use Rattle.board_defs.specs.declared.board.Ctl.{Ctl}
 use Rattle.board_defs.specs.declared.board.Drive.{Drive}

@@ -1,4 +1,4 @@
--- The port bits whose pins are on unguarded nets that are pulled to one value, in a table with a row for each part.
+-- The port bits whose pins are on unguarded nets that are pulled to a given value, in a table with a row for each part.
 use Rattle.std.specs.Prelude.{◌≡◌, ◌<◌, Bool, true, false, not, ◌&&◌, List, map, fold, replicate, Option, Some, None, cond}
 use Rattle.board_defs.specs.declared.board.Part.{Part}
 use Rattle.board_defs.specs.declared.board.PinAt.{PinAt}

@@ -7,7 +7,8 @@ use Rattle.net_classes.specs.Pairs.{drivers_at}
 use Rattle.driver_passes.specs.inner.Tested.{drives}
 use Rattle.driver_passes.proofs.tested.TestedNets.shown_by.Given as goal
 
--- the row has the nets with a tested driver that is always on, or whose control is a control of the pass at a place below `place`
+-- A net is in the row if it has a tested driver that is always on, or one whose control is in the pass and has a place below `place` in
+-- the list of useful controls.
 abbrev pub invariant-loop-place : goal.invariant-loop-place
 invariant-loop-place l = record {
   room : length l.row ≡ length l.board.nets / 64 + 1;
