@@ -1,5 +1,5 @@
 -- Lemmas about a loop that gathers the pins of each net word by word, and about the nets made from
--- the names and these groups.
+-- the names and these lists of pins. The list of the pins of a net is the group of the net.
 use Rattle.std.proofs.Common.{◌≡◌, ◌≢◌, ℕ, zero, suc, ◌+◌, ◌<◌, ◌≤◌, ◌==◌, Bool, true, false, cond, List, [], ◌∷◌, ◌++◌, length, map, take, drop, get_or, set, append_assoc, nat_lt, Option, Some, None, refl, sym, ap, ◌∙◌, arith, Bor}
 use Rattle.std.specs.Prelude.{filter, zip, slice_get, option_map}
 use Rattle.std.specs.Option.{option_to_list}
@@ -206,7 +206,7 @@ zip_step {A} {G} {N} f names i gs rest nets new all within er en same =
         ∙ ap (λ (v : List N). v ++ map f (zip (drop (i + 1) names) hs)) (sym now)
         ∙ ap (λ (v : List G). new ++ map f (zip (drop (i + 1) names) v)) (sym er)
 
--- one step of the loop: the mark of word `i` is appended
+-- one step of the loop: the value of `f` for word `i` is appended
 pub mark_step : {A N : Type 0} (f : A → N) (words : List A) (i : ℕ) (done new : List N)
     → i < length words → new ≡ marks_after f (slice_get words i) done → done ≡ map f (take i words)
     → new ≡ map f (take (i + 1) words)

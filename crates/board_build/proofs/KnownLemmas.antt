@@ -89,8 +89,8 @@ placed_known parts pin = by_test (is_among (described_names parts) pin.0) refl
         ∙ none_placed 0 parts pin
         (sym (some_place (λ name. same_word name pin.0) 0 (described_names parts)) ∙ e))
 
--- the Rust function first tests whether the pin has a place, so it need not look up the name of the pin's part; its result is still
--- whether the part is described
+-- The Rust function first tests whether the pin has a place. If the pin has one, its part is
+-- described, so the function need not look up the name of the part.
 pub known_same : (parts : List Part) (pin : Pin) (d : Bool) (a : Option PinAt)
     → d ≡ is_among (described_names parts) pin.0 → a ≡ place_of_pin (pin_places parts) pin
     → (is_some a || d) ≡ is_among (described_names parts) pin.0

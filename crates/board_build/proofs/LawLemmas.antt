@@ -33,7 +33,9 @@ use Rattle.board_build.proofs.NetLemmas.{words_on, PinAtWord, pin_at_word, SameW
 use Rattle.board_lines.proofs.FaultLemmas.{then_none}
 use Rattle.board_build.proofs.RuleLemmas.{LimitsKept, limits_kept, PinsKept, pins_kept, not_inert, inert_kept, DriversKept, drivers_kept}
 
--- the board of parts, marks, words and names
+-- the board with these parts and with nets of these names; `words` has the words that name the
+-- nets' pins, and `marks` has the places of pins and the names and values on INERT, SUPPLY and PULL
+-- lines
 abbrev board_on : List Part → NetMarks → List NetWord → List (List ℕ) → RawBoard
 board_on parts marks words names = record { chain = parts; nets = board_nets marks words names }
 
@@ -102,8 +104,8 @@ inert_alike parts marks words names none = record {
       ap (λ (v : NetPin). v.inert) a.is ∙ ap (is_among marks.inerts) part ∙ sym (ap (λ (v : NetPin). v.inert) b.is);
 }
 
--- if a pin is an always-on driver and is made from the word `r.word`, `drives_always` is true of the
--- pin that this word names
+-- if a pin is an always-on driver and is made from the word `r.word`, `drives_always` returns true
+-- for the pin that this word names
 drives_at : (parts : List Part) (marks : NetMarks) (words : List NetWord) (names : List (List ℕ))
     (n place : ℕ) (net : Net) (pin : NetPin) → slice_get (board_nets marks words names) n ≡ Some net
     →

@@ -93,8 +93,8 @@ pub record SameWord (m n i j : ℕ) : Type 0 where
   pub net : m ≡ n
   pub place : i ≡ j
 
--- If no two words name the same pin, a pin determines the word that names it: the number of the net,
--- and the index of the word among the net's words.
+-- If no two words name the same pin, a pin determines which word names it: it determines the number
+-- of the word's net, and the index of the word among the words of this net.
 pub one_word : (words : List NetWord) → Apart (λ a b. have_same_pin a b ≡ false) words
     → (m n i j : ℕ) (a b : NetWord) → slice_get (words_on words m) i ≡ Some a
     → slice_get (words_on words n) j ≡ Some b →

@@ -58,7 +58,7 @@ any_weaker {X} p q h (x ∷ xs) e = by_test (any_weaker p q h xs) (p x) (q x) re
     by_test rest true false ea eb k = let wrong : true ≡ false = sym (h x ea) ∙ eb in cc wrong
     by_test rest false false ea eb k = rest k
 
--- a list without repeats by `q` has no repeats by the stronger test `p`
+-- if `p` implies `q`, a list without repeats by `q` has no repeats by `p`
 repeated_weaker : {X : Type 0} (p q : X → X → Bool) → ((x y : X) → p x y ≡ true → q x y ≡ true)
     → (seen_word xs : List X) → repeated_from q seen_word xs ≡ None
     → repeated_from p seen_word xs ≡ None

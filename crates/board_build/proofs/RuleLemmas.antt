@@ -68,8 +68,8 @@ pins_kept parts words e =
       differ = unrepeated_apart have_same_pin words once_;
     }
 
--- if a rule that reports the line of the first item that passes its test finds no fault, no item
--- passes the test
+-- A rule reports the line of the first item that passes its test. If the rule finds no fault, no
+-- item passes the test.
 no_place : {A : Type 0} (fault : Spot → BoardFault) (list : List Named) (test : A → Bool)
     (xs : List A) → length xs ≡ length list
     → option_map fault (option_and_then (spot_at list) (position test xs)) ≡ None

@@ -60,7 +60,7 @@ drives_always board marks pin (Some net) = is_always_on (drive board net (net_pi
 abbrev pub always_on_words : RawBoard → NetMarks → List NetWord → List NetWord
 always_on_words board marks words = filter (λ word. drives_always board marks (word_pin word) (slice_get board.nets (word_net word))) words
 
--- there is a net, and it must not have an always-on driver, since it is a supply net or has a TAP
+-- there is a net, and it must not have an always-on driver because it is a supply net or has a TAP
 -- or compliance pin
 abbrev pub is_kept : RawBoard → Option Net → Bool
 is_kept board None = false

@@ -1,4 +1,5 @@
-// The nets of a board, from the words that name their pins.
+// Makes the nets of a board from the words that name their pins. The group of a net is the list of
+// its pins.
 ghost use Rattle.std.specs.Prelude.{◌≡◌, ◌<◌, ◌^◌, ◌∷◌, [], ◌++◌, ℕ, List, vec_len, length, map, zip, drop, slice_get, slice_index_or, slice_set, nat_lt, IfOk, OnOk, Option, option_map, is_some, if◌then◌else◌};
 ghost use Rattle.std.specs.Option.{option_to_list};
 ghost use Rattle.std.specs.Vec.Iter.{into_iter_items};

@@ -187,8 +187,8 @@ pub fn file_fault(
     line_fault(alloc, lines, ShortSlice { items: names })
 }
 
-/// Returns whether the net must not have an always-on driver, since it is a supply net or has a TAP
-/// or compliance pin.
+/// Returns whether the net must not have an always-on driver because it is a supply net or has a
+/// TAP or compliance pin.
 fn is_kept(board: &RawBoard, net: &Net) -> bool
     ensures { result ≡ is_kept board.now (Some net.now) }
 {

@@ -12,7 +12,8 @@ use Rattle.board_files.specs.Files.{HasFewPins, IsNetFile}
 use Rattle.board_files.specs.Reading.{◌>>=◌, line_then, lines_from}
 use Rattle.board_files.specs.NetLines.{read_pin_word, read_pins, read_net, read_net_line, net_lines}
 
--- the number of pieces that are not empty
+-- the number of pieces that are not empty; the pieces are the parts between the separators of a
+-- text
 filled : List (List ℕ) → ℕ
 filled pieces = length (filter is_filled pieces)
 

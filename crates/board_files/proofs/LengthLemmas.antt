@@ -78,7 +78,7 @@ link_length n (Some (part, first, second)) =
     kept (is_part part && is_symbol_word first && is_symbol_word second)
     (Link part (upper_word first) (upper_word second)) (WordFault n) tt
 
--- the reading `a` if `name` is `word`, and the reading `b` otherwise
+-- the result `a` if `name` is `word`, and the result `b` otherwise
 abbrev choice : Word → List ℕ → Read → Read → Read
 choice name word a b = if bytes_eq name word then a else b
 

@@ -9,7 +9,7 @@ use short_lists::TextSlice;
 use std::alloc::Global;
 use text_lines::{first_line, words};
 
-/// A line of a file. Lines without words are left out.
+/// A type of line in a file. A value of the type is made from the number and the words of the line.
 pub(crate) trait FileLine: Drop {
     ghost read: { ℕ → List Word → Result Self LineFault };
 
@@ -18,7 +18,8 @@ pub(crate) trait FileLine: Drop {
         ensures { ReadsLines (λ line. line) result (read line (map (λ w. w.now) words.now)) };
 }
 
-/// Returns the lines of a file, or the fault of its first faulty line. There are at most as many lines as the text has bytes.
+/// Returns the lines of a file, or the fault of its first faulty line. Lines without words are left
+/// out. There are at most as many lines as the text has bytes.
 pub(crate) fn read_lines<L: FileLine>(
     alloc: Global,
     text: TextSlice<'_>,

@@ -1,4 +1,4 @@
--- Lemmas about a text to which the texts of consecutive numbers are appended.
+-- Lemmas about a loop over consecutive numbers that appends a text for each number.
 use Rattle.std.proofs.Common.{◌≡◌, ℕ, ◌+◌, ◌-◌, ◌≤◌, suc, zero, List, ◌++◌, sym, ◌∙◌, ap, arith, append_assoc, append-nil, add-zero, Result, Ok, Err, is_ok, cond, OnOk}
 use Rattle.board_gen.specs.BoardTexts.{each}
 

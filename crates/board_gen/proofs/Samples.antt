@@ -162,7 +162,7 @@ input_cells : map device_cell_line (range_with_len 37 32) ≡
 unfolding digits
 input_cells = refl
 
--- the lines of cells 69 to 76, which are the bus pins; all have one control
+-- the lines of cells 69 to 76, which are the bus pins; all share one control
 bus_cells : map device_cell_line (range_with_len 69 8) ≡
     codes "\"69 (BC_7, B(0), bidir, X, 4, 1, Z),\" &\n"
     ∷ codes "\"70 (BC_7, B(1), bidir, X, 4, 1, Z),\" &\n"

@@ -3,7 +3,7 @@
 use Rattle.std.specs.Prelude.{ℕ, ◌+◌, ◌==◌, List, ◌++◌, codes, decimal, if◌then◌else◌}
 use Rattle.std.specs.List.{flat_map, range_with_len}
 
--- The texts of `count` consecutive numbers, joined. The first number is `first`.
+-- `text first`, `text (first + 1)` and so on, for `count` numbers, joined into one text
 abbrev pub each : (ℕ → List ℕ) → ℕ → ℕ → List ℕ
 each text first count = flat_map text (range_with_len first count)
 

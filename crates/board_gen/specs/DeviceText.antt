@@ -36,7 +36,7 @@ map_line =
     codes "constant P : PIN_MAP_STRING := \"TDI:T1, TDO:T2, TMS:T3, TCK:T4, "
     ++ codes "Q:(" ++ numbers 1 32 ++ codes "), D:(" ++ numbers 33 32 ++ codes "), B:(" ++ numbers 65 8 ++ codes ")\";\n"
 
--- the lines from the pin map to the boundary register
+-- the lines between the pin map and the entries of the boundary register
 unfoldable pub attributes_text : List ℕ
 attributes_text =
     codes "attribute TAP_SCAN_IN of TDI : signal is true;\n"

@@ -43,7 +43,8 @@ pub fn nets(alloc: Global, number: u32) -> Result<Vec<u8>, AllocError>
     Ok(text)
 }
 
-// Appends the nets from each part to the next part. `number` is the number of parts and must be at most 255.
+// Appends the lines of the nets from each part to the next part. `number` is the number of parts
+// and must be at most 255.
 fn push_rings(text: &mut Vec<u8>, number: u32) -> Result<(), AllocError>
     requires { number ≤ 255 }
     ensures { OnOk result
@@ -56,7 +57,8 @@ fn push_rings(text: &mut Vec<u8>, number: u32) -> Result<(), AllocError>
     Ok(())
 }
 
-// Appends the nets from a part to the next part. `part` must be at most 255.
+// Appends the lines of the nets from a part to the next part. `number` is the number of parts.
+// `part` must be at most 255.
 fn push_ring(text: &mut Vec<u8>, number: u32, part: u32) -> Result<(), AllocError>
     requires { part ≤ 255 }
     ensures { OnOk result (text.new.items ≡ text.old.items ++ each (ring_line number part) 0 32) }
@@ -81,7 +83,8 @@ fn push_ring_line(text: &mut Vec<u8>, number: u32, part: u32, bit: u32) -> Resul
     text.extend_from_slice(b"\n")
 }
 
-// Returns the number of the next part. Part 1 comes after the last part. `part` must be at most 255.
+// Returns the number of the next part. Part 1 comes after the last part. `number` is the number of
+// parts. `part` must be at most 255.
 fn next_part(number: u32, part: u32) -> u32
     requires { part ≤ 255 }
     ensures { result ≡ next_part number part }
@@ -97,7 +100,8 @@ fn push_pin(text: &mut Vec<u8>, part: u32, pin: u32) -> Result<(), AllocError>
     push_numbered(text, b".", pin)
 }
 
-// Appends the nets of the bus. `number` is the number of parts and must be at most 255.
+// Appends the lines of the nets of the bus. `number` is the number of parts and must be at most
+// 255.
 fn push_buses(text: &mut Vec<u8>, number: u32) -> Result<(), AllocError>
     requires { number ≤ 255 }
     ensures { OnOk result (text.new.items ≡ text.old.items ++ each (bus_line number) 0 8) }

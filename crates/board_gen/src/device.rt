@@ -68,7 +68,7 @@ fn push_numbers(text: &mut Vec<u8>, first: u32, count: u32) -> Result<(), AllocE
     Ok(())
 }
 
-// Appends the lines from the pin map to the boundary register.
+// Appends the lines between the pin map and the entries of the boundary register.
 #[tactic(auto, unfolding(crate::specs::DeviceText::attributes_text))]
 fn push_attributes(text: &mut Vec<u8>) -> Result<(), AllocError>
     ensures { OnOk result (text.new.items ≡ text.old.items ++ attributes_text) }

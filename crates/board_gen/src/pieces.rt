@@ -1,4 +1,4 @@
-// Appends pieces to a text.
+// Appends words and numbers to a text.
 ghost use Rattle.std.specs.Prelude.{◌≡◌, ◌++◌, decimal, OnOk};
 
 use itoa::Buffer;

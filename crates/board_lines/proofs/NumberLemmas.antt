@@ -42,8 +42,8 @@ spot_there list place within =
       | inr (past, _) ↦ absurd (omega (arith, past, within))
     ]
 
--- `fault` reports the line at `place`, which is within the list; if there is no fault, `place` is
--- None
+-- A rule reports the line of the name at index `place`, unless `place` is None. If the rule reports
+-- no fault, `place` is None.
 found_none : (fault : Spot → BoardFault) (list : List Named) (place : Option ℕ)
     → ((k : ℕ) → place ≡ Some k → k < length list)
     → option_map fault (option_and_then (spot_at list) place) ≡ None → place ≡ None

@@ -54,8 +54,8 @@ bits_other part name n (bit ∷ bits) pin other = by_pin bit.pin (bits_other par
         (find (λ (i : PinPlace). same_pin i.0 pin) (bit_places part name (n + 1) bits)))) other
         ∙ rest
 
--- if a part has the name of the pin's part, the pin's place is the part's first port bit with this
--- pin
+-- if a part has the name of the pin's part, the pin's place is the part's first port bit with the
+-- pin's own name, or None if the part has no such bit
 bits_same : (part : ℕ) (name : List ℕ) (n : ℕ) (bits : List PortBit) (pin : Pin)
     → same_word name pin.0 ≡ true
     → first_value same_pin (bit_places part name n bits) pin

@@ -38,7 +38,7 @@ row = Some (codes "T1") ∷ Some (codes "A2") ∷ None ∷ Some (codes "7") ∷ 
 pins : map pins_of_part (Described device ∷ Bypass 4 ∷ []) ≡ row ∷ [] ∷ []
 pins = refl
 
--- a port bit without a pin also has a number, and no pin has this number
+-- port bits without a pin are numbered, too, but no name finds them
 bits : map (bit_of_pin row) (codes "T1" ∷ codes "A2" ∷ codes "7" ∷ codes "" ∷ codes "8" ∷ []) ≡ Some 0 ∷ Some 1 ∷ Some 3 ∷ None ∷ None ∷ []
 bits = refl
 

@@ -22,7 +22,7 @@ use Rattle.board_lines.specs.ChainParts.{IsChain}
 use Rattle.board_lines.proofs.ApartLemmas.{apart_pairs, apart_weaker, unrepeated_apart}
 use Rattle.board_lines.proofs.FaultLemmas.{then_none, limit_kept}
 
--- `k` is at most the index of the last of `count` items that are numbered from `n` on
+-- `k` is below `n + count`: it is not past the last of `count` items that are numbered from `n` on
 pub record Repeat (n count k : ℕ) : Type 0 where
   pub below : k < n + count
 

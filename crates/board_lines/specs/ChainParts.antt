@@ -50,11 +50,12 @@ chain_parts (line ∷ lines) devices =
     cons_option (part_of_line line.statement devices)
     (chain_parts lines (devices_after line.statement devices))
 
--- a pin of a described part, and its place: the numbers of its part and of its port bit
+-- a pin of a described part, with the place of the pin, that is, the numbers of its part and of its
+-- port bit
 abbrev pub PinPlace : Type 0
 PinPlace = Pin × PinAt
 
--- `places`, preceded by the pin of port bit `n` and its place if the port bit has a pin
+-- `places`, with the pin of port bit `n` and its place added in front if the port bit has a pin
 abbrev pub with_place : ℕ → List ℕ → ℕ → Option (List ℕ) → List PinPlace → List PinPlace
 with_place part name n None places = places
 with_place part name n (Some pin) places = ((name, pin), record { part = part; bit = n }) ∷ places

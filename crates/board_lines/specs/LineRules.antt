@@ -13,7 +13,8 @@ use Rattle.board_lines.specs.Faults.{◌then◌}
 use Rattle.board_lines.specs.Names.{Named, named, names_of}
 use Rattle.board_lines.specs.Selection.{spot_at}
 
--- for each name of the list, the index of its first occurrence among the other names, or None
+-- for each name of the list, the index of its first occurrence among the other names, or None if it
+-- does not occur there
 abbrev pub first_places_among : List Named → List (List ℕ) → List (Option ℕ)
 first_places_among list others = map (first_place same_word others) (names_of list)
 
@@ -49,7 +50,7 @@ pull_of_line (Inert part) = None
 pull_of_line (Supply net) = None
 pull_of_line (Link part first second) = None
 
--- the nets of the PULL lines, each with the value on its line
+-- the net and the value on each PULL line, in the order of the lines
 abbrev pub pulls_of : List ChainLine → List Pulled
 pulls_of [] = []
 pulls_of (line ∷ lines) = cons_option (pull_of_line line.statement) (pulls_of lines)

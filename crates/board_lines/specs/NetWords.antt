@@ -14,7 +14,8 @@ Pin = List ℕ × List ℕ
 abbrev pub same_pin : Pin → Pin → Bool
 same_pin a b = same_word a.0 b.0 && same_word a.1 b.1
 
--- a word that names a pin: the number of the net, the pin, and the line and number of the word
+-- a word that names a pin: the number of the word's net, the pin, and the line of the word and its
+-- number in this line
 abbrev pub NetWord : Type 0
 NetWord = (ℕ × Pin) × Spot
 
@@ -66,7 +67,7 @@ net_words lines = words_of_nets (net_names lines) lines
 abbrev pub standing_words : List NetLine → List NetWord
 standing_words lines = once same_place (net_words lines)
 
--- the pins of net `n`
+-- the pins that the words name on net `n`, in the order of the words
 abbrev pub pins_on_net : List NetWord → ℕ → List Pin
 pins_on_net words n = map word_pin (filter (λ word. word_net word == n) words)
 

@@ -1,5 +1,5 @@
--- Rows of pins. A row has the pin of each port bit of a part, and parts with the same pins can
--- share a row.
+-- Pin rows. A pin row lists the pin of each port bit of a part. A port bit is one bit of a port.
+-- Parts with the same pins can share a row.
 use Rattle.std.specs.Prelude.{◌≡◌, ◌≢◌, ℕ, Bool, false, List, [], map, Option, Some, None, option_and_then, option_map, slice_get, AllPairs}
 use Rattle.std.specs.List.{position_from}
 use Rattle.std.proofs.Common.{Bor}
@@ -46,8 +46,8 @@ place_by_part rows numbers (Some part) pin =
     option_map (λ bit. record { part = part; bit = bit })
     (option_and_then (λ row. bit_of_pin row pin) (row_at rows numbers part))
 
--- no two parts have the same name; the map has the number of each part by its name; the row of each
--- part has the part's pins
+-- no two parts have the same name; the map gives the number of each part by its name; the row of
+-- each part has the part's pins
 pub record ArePlaces {S : Type 0} (by_name : IndexMap (Bor (List ℕ)) ℕ S)
     (rows : List (List (Option (List ℕ)))) (numbers : List ℕ) (parts : List Part) : Type 0 where
   pub named : (q : Bor (List ℕ)) → get_by (λ n. same_word q.now n.now) by_name ≡ first_place same_word (map (λ part. part.name) parts) q.now

@@ -27,15 +27,15 @@ no_chain parts = if nat_eq (length parts) 0 then Some NoChain else None
 unfoldable pub part_twice : List Named → Option BoardFault
 part_twice parts = option_map PartTwice (option_and_then (spot_at parts) (first_repeat same_word (names_of parts)))
 
--- the index in `entities` of each DEVICE line's entity, or None
+-- the index in `entities` of each DEVICE line's entity, or None if the entity is not there
 abbrev pub entity_places : List Named → List (List ℕ) → List (Option ℕ)
 entity_places devices entities = map (first_place same_word entities) (names_of devices)
 
--- the fault of the first DEVICE line whose entity no text describes
+-- the fault of the first DEVICE line whose entity no BSDL text describes
 unfoldable pub no_entity : List Named → List (Option ℕ) → Option BoardFault
 no_entity devices places = option_map NoEntity (option_and_then (spot_at devices) (position is_none places))
 
--- the fault of the first text whose entity an earlier text describes
+-- the fault of the first BSDL text whose entity an earlier text describes
 unfoldable pub entity_twice : List (List ℕ) → Option BoardFault
 entity_twice entities = option_map EntityTwice (first_repeat same_word entities)
 

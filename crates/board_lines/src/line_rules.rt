@@ -17,7 +17,7 @@ use short_lists::ShortSlice;
 use std::alloc::{AllocError, Global};
 
 /// Returns, for each name of the list, the index of its first occurrence in `others`, or None if
-/// there is none. `others` must have fewer than 2^32 names.
+/// `others` does not have the name.
 fn places_of(
     alloc: Global,
     named: &[(u32, &[u8])],
@@ -38,8 +38,8 @@ fn found(places: &[Option<u32>]) -> Option<usize>
     places.iter().position(|place| place.is_some())
 }
 
-/// Returns the fault of the first INERT line whose part is in the chain, or None if there is no
-/// such line. There must be fewer than 2^32 parts.
+/// Returns the fault of the first INERT line that names a part of the chain, or None if there is no
+/// such line. `parts` has the names of the chain's parts.
 #[tactic(auto, unfolding(crate::specs::LineRules::inert_in_chain))]
 pub fn inert_in_chain(
     alloc: Global,
@@ -58,7 +58,7 @@ pub fn inert_in_chain(
 }
 
 /// Returns the fault of the first SUPPLY line whose net does not exist, or None if there is no such
-/// line. There must be fewer than 2^32 nets.
+/// line. `nets` has the names of the nets.
 #[tactic(auto, unfolding(crate::specs::LineRules::no_supply_net))]
 pub fn no_supply_net(
     alloc: Global,
@@ -77,7 +77,7 @@ pub fn no_supply_net(
 }
 
 /// Returns the fault of the first PULL line whose net does not exist, or None if there is no such
-/// line. There must be fewer than 2^32 nets.
+/// line. `nets` has the names of the nets.
 #[tactic(auto, unfolding(crate::specs::LineRules::no_pull_net))]
 pub fn no_pull_net(
     alloc: Global,
@@ -96,7 +96,7 @@ pub fn no_pull_net(
 }
 
 /// Returns the fault of the first PULL line whose net an earlier PULL line names, or None if there
-/// is no such line. There must be fewer than 2^32 PULL lines.
+/// is no such line.
 #[tactic(auto, unfolding(crate::specs::LineRules::pull_twice))]
 pub fn pull_twice(
     alloc: Global,
@@ -121,7 +121,7 @@ fn pull_of_line(statement: &ChainStatement) -> Option<(&[u8], bool)>
     }
 }
 
-/// Returns the nets of the PULL lines, each with the value on its line.
+/// Returns the net and the value on each PULL line, in the order of the lines.
 pub fn pulls_of<'a>(
     alloc: Global,
     lines: &'a [ChainLine],
@@ -161,9 +161,9 @@ pub fn pull_of_net(pulls: &IndexMap<&[u8], bool>, net: &[u8]) -> Option<bool>
     pulls.get(&net).copied()
 }
 
-/// Returns the first fault of the INERT, SUPPLY and PULL lines. The rules are checked in the order
-/// InertInChain, NoSupplyNet, NoPullNet, PullTwice. There must be fewer than 2^32 lines and fewer
-/// than 2^32 nets.
+/// Returns the first fault of the INERT, SUPPLY and PULL lines, or None if they have no fault. The
+/// rules are checked in the order InertInChain, NoSupplyNet, NoPullNet, PullTwice. `nets` has the
+/// names of the nets.
 #[tactic(auto, unfolding(crate::specs::LineRules::line_fault))]
 pub fn line_fault(
     alloc: Global,

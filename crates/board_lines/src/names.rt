@@ -71,8 +71,8 @@ pub fn names_of<'a>(alloc: Global, named: &[(u32, &'a [u8])]) -> Result<Vec<&'a 
     Ok(names)
 }
 
-/// Returns the index of the first name that also occurs earlier in the list. There must be fewer
-/// than 2^32 names.
+/// Returns the index of the first name that also occurs earlier in the list, or None if the names
+/// differ.
 pub fn first_repeat_of(
     alloc: Global,
     names: ShortSlice<'_, &[u8]>,
@@ -83,8 +83,7 @@ pub fn first_repeat_of(
     first_repeat(alloc, names.items)
 }
 
-/// Returns a map from each name to the index of its first occurrence. There must be fewer than 2^32
-/// names.
+/// Returns a map from each name to the index of its first occurrence in the list.
 pub fn first_places_of<'a>(
     alloc: Global,
     names: ShortSlice<'_, &'a [u8]>,
@@ -123,8 +122,8 @@ fn places_by(
         .collect(alloc)
 }
 
-/// Returns, for each of `names`, the index of its first occurrence in `others`, or None if there is
-/// none. `others` must have fewer than 2^32 names.
+/// Returns, for each of `names`, the index of its first occurrence in `others`, or None if `others`
+/// does not have the name.
 pub fn places_among(
     alloc: Global,
     names: &[&[u8]],
@@ -144,7 +143,7 @@ pub fn places_among(
 }
 
 /// Returns the distinct names in the order of their first occurrences, and, for each of `names`,
-/// its index among the distinct names. There must be fewer than 2^32 names.
+/// its index among the distinct names.
 pub fn numbered_names<'a>(
     alloc: Global,
     names: ShortSlice<'_, &'a [u8]>,

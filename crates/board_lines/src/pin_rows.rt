@@ -1,5 +1,5 @@
-// Rows of pins. A row has the pins of a device, and finds the port bit of a pin. Parts with the
-// same pins can share a row.
+// Pin rows. A pin row lists the pin of each port bit of a device, and maps each pin to its port
+// bit. A port bit is one bit of a port. Parts with the same pins can share a row.
 ghost use Rattle.std.specs.Prelude.{◌≡◌, ◌≤◌, if◌then◌else◌, length, slice_get, true, IfOk, IfSome, List, OnOk, Option, Some, ℕ};
 ghost use Rattle.board_defs.specs.Limits.{most_bits};
 ghost use Rattle.std.proofs.Common.{Bor};
@@ -30,7 +30,7 @@ pub fn bits_of(kind: &PartKind) -> ShortSlice<'_, PortBit>
     }
 }
 
-/// Sets the map's value for the pin to `bit`, if there is a pin.
+/// Sets the map's value for the pin to `bit`. Does nothing if there is no pin.
 fn put_pin<'a>(
     bits: &mut IndexMap<&'a [u8], u32>,
     pin: &'a Option<Name>,
@@ -48,8 +48,7 @@ fn put_pin<'a>(
     Ok(())
 }
 
-/// Returns a map from each pin to the number of the first port bit with this pin. There must be
-/// fewer than 2^32 port bits.
+/// Returns a map from each pin to the number of the first port bit with this pin.
 fn bits_by_pin<'a>(
     alloc: Global,
     bits: ShortSlice<'a, PortBit>,
@@ -161,7 +160,7 @@ fn row_among(rows: &[PinRow<'_>], bits: &[PortBit]) -> Option<usize>
 }
 
 /// Returns the number of a row with the pins of these port bits. Adds a row if there is none among
-/// the first `ROWS_COMPARED` rows. There must be fewer than 2^32 port bits.
+/// the first `ROWS_COMPARED` rows.
 pub fn row_of<'a>(
     alloc: Global,
     rows: &mut Vec<PinRow<'a>>,

@@ -29,8 +29,7 @@ fn part_names<'a>(alloc: Global, parts: &'a [Part]) -> Result<Vec<&'a [u8]>, All
     Ok(names)
 }
 
-/// Returns a map from each part name to the number of the first part with this name. There must be
-/// fewer than 2^32 parts.
+/// Returns a map from each part name to the number of the first part with this name.
 fn parts_by_name<'a>(
     alloc: Global,
     parts: ShortSlice<'a, Part>,
@@ -44,7 +43,7 @@ fn parts_by_name<'a>(
     first_places_of(alloc, ShortSlice { items: &names })
 }
 
-/// The rows of the parts. Parts with the same pins can share a row.
+/// The pin row of each part. Parts with the same pins can share a row.
 #[derive(Drop)]
 struct PartRows<'a> {
     rows: Vec<PinRow<'a>>,
@@ -126,8 +125,7 @@ impl<'a> Model for PinPlaces<'a> {
 }
 
 impl<'a> PinPlaces<'a> {
-    /// Returns the places of the pins of these parts. There must be fewer than 2^32 parts, and
-    /// their names must differ.
+    /// Returns the places of the pins of these parts. The names of the parts must differ.
     pub fn of(alloc: Global, parts: ShortSlice<'a, Part>) -> Result<PinPlaces<'a>, AllocError>
         requires { AllPairs (λ a b. a ≢ b) (map (λ part. part.name) parts.items.now) }
         ensures { IfOk result (λ places. places ≡ parts.entry.items.now) }

@@ -44,7 +44,7 @@ fn entity_numbers(
 }
 
 /// Returns the index of each DEVICE line's entity among these names, or the first fault of the
-/// chain. There must be fewer than 2^32 names.
+/// chain.
 fn numbers_among(
     alloc: Global,
     chain: &ChainFile,
@@ -67,9 +67,8 @@ fn numbers_among(
     )
 }
 
-/// Returns the index of each DEVICE line's entity, or the first fault. `places` has this index for
-/// each of `devices`, or None if the entity is not in `entities`. There must be fewer than 2^32
-/// parts and fewer than 2^32 entities.
+/// Returns the index of each DEVICE line's entity, or the first fault. `places` has, for each of
+/// `devices`, the index of its entity in `entities`, or None if the entity is not there.
 #[tactic(auto, unfolding(crate::specs::Selection::answer))]
 fn answer(
     alloc: Global,
@@ -90,7 +89,7 @@ fn answer(
 }
 
 /// Returns the index in `entities` of each DEVICE line's entity, or None if the entity is not
-/// there. There must be fewer than 2^32 entities.
+/// there.
 fn entity_places(
     alloc: Global,
     devices: &[(u32, &[u8])],

@@ -14,7 +14,8 @@ use std::alloc::{AllocError, Global};
 /// A pin: the name of its part, and its own name.
 pub type PinName<'a> = (&'a [u8], &'a [u8]);
 
-/// A word that names a pin: the number of the net, the pin, and the line and number of the word.
+/// A word that names a pin: the number of the word's net, the pin, and the line of the word and its
+/// number in this line.
 pub type NetWord<'a> = ((u32, PinName<'a>), Spot);
 
 /// The names of the nets in a net file.
@@ -27,8 +28,7 @@ pub struct NetNames<'a> {
     pub numbers: Vec<u32>,
 }
 
-/// Returns the names of the nets, and the number of each line's net. There must be fewer than 2^32
-/// lines.
+/// Returns the names of the nets, and the number of each line's net.
 pub fn net_names<'a>(
     alloc: Global,
     lines: ShortSlice<'a, NetLine>,

@@ -1,5 +1,5 @@
--- Lemmas about a loop that finds the device of each choice. A choice is the number of a text and a package. An answer is the list of the
--- devices or the first fault.
+-- Lemmas about a loop that finds the device of each choice. A choice has the number of a text, and
+-- a package if the DEVICE line gives one. An answer is the list of the devices or the first fault.
 use Rattle.std.proofs.Common.{inl, inr, ◌⊎◌, ◌≡◌, ℕ, ◌+◌, ◌<◌, ◌≤◌, List, [], ◌∷◌, ◌++◌, map, drop, length, zip, slice_index_or, slice_get, option_map, unwrap_or, zero, suc, Some, None, Ok, Err, ap, sym, refl, ◌∙◌, subst, append_assoc, arith, Option, option_copied}
 use Rattle.std.specs.List.{AllByRecursion, filter_map}
 use Rattle.std.proofs.lemmas.Slice.Zip.{length-zip}
@@ -19,8 +19,9 @@ use Rattle.btest_core.specs.declared.fault.InputFault.{InputFault}
 use Rattle.btest_core.specs.inner.Choices.{Lent, choices_of, AreOfChoices}
 use Rattle.btest_core.proofs.EachLemmas.{Completes, completes_all, completes_more, completes_fault, completes_end}
 
--- `front` has the devices of the first `n` choices; with the devices of the other choices appended,
--- `front` is the answer for all choices
+-- `front` has the devices of the first choices. Take any answer for the choices from `n` on. If it
+-- is a list of devices, `front` followed by this list is the answer for all choices. If it is a
+-- fault, this fault is the answer for all choices.
 pub record Chooses (entities : List Entity) (choices : List Chosen) (n : ℕ) (front : List RawDevice) : Type 0 where
   pub completes : Completes (IsDeviceOf entities) choices (drop n choices) front
   pub devices : AreOfChoices entities choices front

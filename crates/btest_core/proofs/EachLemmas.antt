@@ -3,12 +3,12 @@ use Rattle.std.proofs.Common.{◌≡◌, List, [], ◌∷◌, ◌++◌, Result, 
 use Rattle.btest_core.specs.declared.fault.InputFault.{InputFault}
 use Rattle.btest_core.specs.Answers.{EachOf}
 
--- the answer whose values are `front` followed by the values of `answer`, or the fault of `answer`
+-- `front` followed by the values of `answer`; the fault of `answer` if it is a fault
 abbrev pub behind : {B : Type 0} → List B → Result (List B) InputFault → Result (List B) InputFault
 behind front (Ok values) = Ok (front ++ values)
 behind front (Err fault) = Err fault
 
--- each answer for the items `rest`, put behind `front`, is an answer for all items
+-- for each answer for the items `rest`, `behind front answer` is an answer for all items
 abbrev pub Completes : {A B : Type 0} → (A → Result B InputFault → Type 0) → List A → List A → List B → Type 0
 Completes {A} {B} IsOf all rest front =
     (answer : Result (List B) InputFault) → EachOf IsOf rest answer

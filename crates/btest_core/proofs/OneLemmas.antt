@@ -18,7 +18,7 @@ use Rattle.btest_core.specs.DevicesRead.{Chosen, IsDeviceIn, IsDeviceOf, IsDevic
 use Rattle.btest_core.specs.BoardRead.{AreChainLengths, IsBoardRead}
 use Rattle.btest_core.specs.IdentsRead.{AreIdents}
 
--- `IsAnswer` is true of at most one answer
+-- `IsAnswer` holds for at most one answer
 abbrev pub AtMostOne : {A : Type 0} → (Result A InputFault → Type 0) → Type 0
 AtMostOne {A} IsAnswer = (a b : Result A InputFault) → IsAnswer a → IsAnswer b → a ≡ b
 

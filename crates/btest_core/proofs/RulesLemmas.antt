@@ -65,7 +65,7 @@ BoardsKeep = (chain : List ChainLine) (nets : List NetLine) (devices : List RawD
     → board_of chain nets devices ≡ Ok board → IsBoard board
 
 -- if the answer of two steps is a value, the first step returned a value, and the next step
--- returned the answer for it
+-- returned the answer for this value
 follows_ok : {A B : Type 0} (first : Result A InputFault → Type 0)
     (next : A → Result B InputFault → Type 0) (value : B) → IsAnswerOfSteps first next (Ok value)
     → (found : A) × first (Ok found) × next found (Ok value)

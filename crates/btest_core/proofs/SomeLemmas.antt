@@ -26,7 +26,7 @@ use Rattle.btest_core.specs.BoardRead.{AreChainLengths, IsBoardRead}
 use Rattle.btest_core.specs.IdentsRead.{AreIdents}
 use Rattle.btest_core.proofs.ChoiceLemmas.{zip_firsts}
 
--- `IsAnswer` is true of some answer
+-- `IsAnswer` holds for some answer
 abbrev pub HasAnswer : {A : Type 0} → (Result A InputFault → Type 0) → Type 0
 HasAnswer {A} IsAnswer = (answer : Result A InputFault) × IsAnswer answer
 

@@ -13,7 +13,8 @@ bytes_of texts = map (λ text. text.items) texts
 abbrev pub numbered : ℕ → List (Vec ℕ Global) → List (ℕ × List ℕ)
 numbered n texts = enumerate_from n (bytes_of texts)
 
--- each answer for the texts `rest`, put behind the entities of `front`, is an answer for all texts
+-- for each answer for the texts `rest`, the answer with the entities `front` in front is an answer
+-- for all texts
 abbrev pub CompletesTexts : List (Vec ℕ Global) → List (ℕ × List ℕ) → List Entity → Type 0
 CompletesTexts texts rest front = Completes IsEntityOfText (numbered 0 texts) rest front
 

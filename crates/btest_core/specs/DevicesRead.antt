@@ -24,7 +24,7 @@ package_in (Supply net) = None
 package_in (Pull net value) = None
 package_in (LinkLine part first second) = None
 
--- a choice: the number of a text, and the package if the DEVICE line has one
+-- a choice has the number of a text, and a package if the DEVICE line gives one
 abbrev pub Chosen : Type 0
 Chosen = ℕ × Option (List ℕ)
 

@@ -1,4 +1,5 @@
--- The faults of lower crates as faults of the inputs.
+-- Converts the faults of a chain file, a net file, a board and joined files to faults of the
+-- inputs.
 use Rattle.std.specs.Prelude.{Result, Ok, Err}
 use Rattle.board_files.specs.declared.fault.LineFault.{LineFault}
 use Rattle.board_files.specs.declared.fault.LineFault.TheVariants as line

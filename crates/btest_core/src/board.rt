@@ -26,8 +26,7 @@ use series_parts::{Joined, LinkFault, join};
 use short_lists::{ShortSlice, TextList, TextSlice};
 use std::alloc::Global;
 
-// Returns the net file that a text contains, or the fault of its first faulty line. The text must
-// have fewer than 2^32 bytes.
+// Returns the net file that a text contains, or the fault of its first faulty line.
 fn net_file(alloc: Global, text: TextSlice<'_>) -> Result<NetFile, InputFault>
     ensures { Gives input_told (λ file. file) (Is (in_file Nets (net_lines text.entry.items.now)))
         result }
@@ -129,8 +128,7 @@ fn joined_board(
     }
 }
 
-// Returns the board of the files and the BSDL texts, or the first fault. Each text must have fewer
-// than 2^32 bytes, and there must be fewer than 2^32 texts.
+// Returns the board of the files and the BSDL texts, or the first fault.
 fn files_board(
     alloc: Global,
     chain: &ChainFile,

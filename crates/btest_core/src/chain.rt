@@ -19,8 +19,7 @@ use board_files::{ChainFile, LineFault, chain};
 use short_lists::{ShortSlice, TextList, TextSlice};
 use std::alloc::{AllocError, Global};
 
-/// Returns the chain file that a text contains, or the fault of its first faulty line. The text
-/// must have fewer than 2^32 bytes.
+/// Returns the chain file that a text contains, or the fault of its first faulty line.
 pub(crate) fn chain_file(alloc: Global, text: TextSlice<'_>) -> Result<ChainFile, InputFault>
     ensures { Gives input_told (λ file. file)
         (Is (in_file Chain (chain_lines text.entry.items.now))) result }
@@ -60,8 +59,7 @@ fn lengths_of(alloc: Global, file: &ChainFile, devices: Vec<Device>) -> Result<V
 }
 
 // Returns the instruction lengths of the parts in a chain file, or the first fault of the BSDL
-// texts, the chain and its devices. Each text must have fewer than 2^32 bytes, and there must be
-// fewer than 2^32 texts.
+// texts, the chain and its devices.
 fn file_lengths(alloc: Global, file: &ChainFile, bsdl: TextList<'_>) -> Result<Vec<u32>, InputFault>
     ensures read { Gives input_told (λ lengths. lengths.items)
         (AreFileLengths file.now (map (λ text. text.items) bsdl.entry.items.now)) result }

@@ -24,7 +24,7 @@ use short_lists::{ShortSlice, TextList, TextSlice};
 use std::alloc::{AllocError, Global};
 
 /// Returns the device that a BSDL text describes in its default package, or the text's first fault.
-/// The number of the text in the fault is 0. The text must have fewer than 2^32 bytes.
+/// The fault reports the text as number 0.
 pub fn read_device(alloc: Global, text: TextSlice<'_>) -> Result<Device, InputFault>
     ensures { Gives input_told (λ device. device) (IsDeviceText text.entry.items.now) result }
 {
@@ -82,8 +82,8 @@ fn is_same_package(a: Option<&[u8]>, b: Option<&[u8]>) -> bool
 }
 
 // Returns the index of the first choice before choice `i` that equals choice `i`, or None if there
-// is no such choice. A choice is the number of a text and the package on a DEVICE line, if the line
-// has one. `i` must be the index of a choice.
+// is no such choice. A choice has the number of a text, and a package if the DEVICE line gives one.
+// `i` must be the index of a choice.
 fn earlier(chosen: &[(u32, Option<&[u8]>)], i: usize) -> Option<usize>
     requires { i < length chosen.now }
     ensures before { IfSome result (λ j. j < i) }
@@ -175,8 +175,8 @@ fn packages<'a>(alloc: Global, lines: &'a [ChainLine]) -> Result<Vec<Option<&'a 
     Ok(list)
 }
 
-// Returns the choices of the DEVICE lines, in the order of the lines. A choice is the number of a
-// text, from `numbers`, and the package if the line has one.
+// Returns the choices of the DEVICE lines, in the order of the lines. A choice has the number of a
+// text, from `numbers`, and a package if the line gives one.
 fn chosen<'a>(
     alloc: Global,
     lines: &'a [ChainLine],
@@ -208,7 +208,7 @@ fn zipped<'a>(
 }
 
 // Returns the number of the text that each DEVICE line selects, in the order of the lines, or the
-// first fault of the chain. There must be fewer than 2^32 entities.
+// first fault of the chain.
 fn numbers(
     alloc: Global,
     file: &ChainFile,
@@ -248,9 +248,8 @@ fn devices_by(
     chosen_devices(alloc, entities, &chosen)
 }
 
-// Returns the devices that the DEVICE lines select among the entities, in the order of the lines, or
-// the first fault. There must be fewer than 2^32 entities. The lists, names and texts of each entity
-// must be shorter than 2^32.
+// Returns the devices that the DEVICE lines select among the entities, in the order of the lines,
+// or the first fault. The lists, names and texts of each entity must be shorter than 2^32.
 fn selected_devices(
     alloc: Global,
     file: &ChainFile,
@@ -270,7 +269,6 @@ fn selected_devices(
 
 /// Returns the devices of the DEVICE lines of a chain, in the order of the lines, or the first
 /// fault. Looks for faults in this order: the texts, the board rules on the chain, and the devices.
-/// Each text must have fewer than 2^32 bytes, and there must be fewer than 2^32 texts.
 pub(crate) fn devices(
     alloc: Global,
     file: &ChainFile,

@@ -84,8 +84,7 @@ fn idents_unless_bypass(
     }
 }
 
-// Returns the patterns of the devices in a chain file, or the first fault. Each text must have fewer
-// than 2^32 bytes, and there must be fewer than 2^32 texts.
+// Returns the patterns of the devices in a chain file, or the first fault.
 fn file_idents(
     alloc: Global,
     file: &ChainFile,

@@ -28,8 +28,8 @@ pub fn read_entity(alloc: Global, bytes: &[u8], text: u32) -> Result<Entity, Inp
     }
 }
 
-// Returns the tokens of a BSDL text, or the fault of the point at which the lexer stops. The text
-// must have fewer than 2^32 bytes.
+// Returns the tokens of a BSDL text, or the fault of the point at which the lexer stops. The fault
+// reports the text as number `text`.
 fn tokens_of(alloc: Global, bytes: TextSlice<'_>, text: u32) -> Result<Vec<Token>, InputFault>
     ensures tokens { IfOk result (λ tokens. AreTokens bytes.entry.items.now tokens.items) }
     ensures fault { IfErr result
@@ -44,8 +44,7 @@ fn tokens_of(alloc: Global, bytes: TextSlice<'_>, text: u32) -> Result<Vec<Token
 }
 
 /// Returns the entities that BSDL texts describe, in the order of the texts, or the first fault of
-/// the first text that has a fault. Each text must have fewer than 2^32 bytes, and there must be
-/// fewer than 2^32 texts.
+/// the first text that has a fault.
 pub(crate) fn entities(alloc: Global, texts: TextList<'_>) -> Result<Vec<Entity>, InputFault>
     ensures read { Gives input_told (λ entities. entities.items)
         (AreEntities (map (λ text. text.items) texts.entry.items.now)) result }

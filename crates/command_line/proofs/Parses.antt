@@ -67,7 +67,8 @@ fault_parts words = refl
 abbrev answer : List Text → Option Command
 answer words = if_none (fault_of btest_app words) (command_in (subcommand_of btest_app words))
 
--- the walk after the subcommand `name`, which takes all later words, and the words `words`
+-- the walk after the name of a subcommand, `name`, and the words `words`, all of which the
+-- subcommand takes
 abbrev stopped_at : Text → List Text → Turns
 stopped_at name words = record start { stopped = Some (name, words) }
 
@@ -84,7 +85,7 @@ unfolding clap_on_literals
 stopped_fault name words [] = refl
 stopped_fault name words (word ∷ rest) = stopped_fault name (words ++ word ∷ []) rest
 
--- the word `name` enters the subcommand with this shape
+-- `clap` reads the word `name` as the name of the subcommand with this shape
 record Enters (name : Text) (shape : Shape) : Type 0 where
   met : walked top.rules names start name ≡ stopped_at name []
   passes : turn_fault top names start name ≡ []

@@ -123,7 +123,8 @@ abbrev pub names_row : List Text → List Row
 names_row [] = []
 names_row (name ∷ names) = record (row_of (codes "BSDL") name) { values = name ∷ names } ∷ []
 
--- the walk after it has read the rows `front`, the BSDL names `names` and one more BSDL name
+-- the walk after words that give the rows `front`, the BSDL names `names` and one more BSDL name,
+-- `name`
 abbrev pub at_names : List Row → ℕ → List Text → Text → Walk
 at_names front position names name =
     before true

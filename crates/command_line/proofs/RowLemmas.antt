@@ -1,4 +1,5 @@
--- Lemmas which say that the getters of `clap` return the values in the rows.
+-- The values that `clap` found for the arguments are in rows, one row for each argument. The
+-- getters of `clap` return the values in these rows.
 use Rattle.std.proofs.Common.{◌≡◌, option_map}
 use Rattle.clap.specs.Matches.{first_value, matched_of, raw_values}
 use Rattle.clap.specs.Walk.{Text, all_of, first_of, rows_of}

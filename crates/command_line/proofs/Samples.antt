@@ -113,7 +113,7 @@ walked_without_nets : command_of (codes "walk" ∷ codes "c" ∷ []) ≡ None
 unfolding board_called
 walked_without_nets = refl
 
--- words among which one begins with `-` or is empty form no command
+-- words form no command if one of them is empty or begins with `-`
 no_plain_words : map command_of
     ((codes "walk" ∷ codes "-c" ∷ codes "n" ∷ []) ∷ (codes "walk" ∷ codes "c" ∷ [] ∷ []) ∷ [])
     ≡ None ∷ None ∷ []

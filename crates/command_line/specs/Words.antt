@@ -15,11 +15,10 @@ use Rattle.command_line.specs.Limits.{most_names, most_made}
 abbrev pub Text : Type 0
 Text = List ℕ
 
--- The command of a command line has the names of its files. The length test and the identity test of a chain have the file names of the
--- chain. The listing of a device has the name of a BSDL file. The coverage list, the test and the walking test of a board have the file
--- names of the board. The summary of a generated board has the number of parts of the board. The diagnosis of a board and the diagnoses of
--- many boards have the number of workers, and the names of a file of response logs and of the files of its board. The groups of shorted
--- nets have these names, too.
+-- A command with the names of its files. `chain` and `ident` have the file names of a chain.
+-- `device` has the name of a BSDL file. `cover`, `svf` and `walk` have the file names of a board.
+-- `make` has a number of parts. `groups` has the names of a file of response logs and of the files
+-- of its board. `diagnose` and `batch` have these names and a number of workers.
 abbrev pub Command : Type 0
 Command = CommandOf Text (List Text)
 
@@ -73,7 +72,8 @@ board_names_of [] = None
 board_names_of (chain ∷ []) = None
 board_names_of (chain ∷ nets ∷ names) = with_names names (record { chain = chain; nets = nets; bsdl = names })
 
--- the names that these words give: a file of response logs, then the file names of its board
+-- the names that these words give: a file of response logs, then the file names of its board;
+-- `None` if there are fewer than three words or more than 255 BSDL names
 abbrev pub log_names_of : List Text → Option LogNames
 log_names_of [] = None
 log_names_of (log ∷ names) = option_map (λ board. record { log = log; board = board }) (board_names_of names)
@@ -84,7 +84,9 @@ make_of [] = None
 make_of (number ∷ []) = option_map Make (number_of most_made number)
 make_of (number ∷ other ∷ others) = None
 
--- the command that these words give: a number of workers, then the names of a file of response logs and of the files of its board
+-- The command that these words give: a number of workers, then the names of a file of response logs
+-- and of the files of its board. It is `None` if the first word is not a number from 1 to 64, or if
+-- the other words do not give these names.
 abbrev pub worked_of : (ℕ → LogNames → Command) → List Text → Option Command
 worked_of command [] = None
 worked_of command (workers ∷ names) =

@@ -50,8 +50,8 @@ fn command_called<'a>(
     }
 }
 
-// Returns the command of the subcommand with this name. Handles all names except `chain`, `ident`
-// and `device`.
+// Returns the command of the subcommand with this name, or `None` if its values form no command.
+// Handles all names except `chain`, `ident` and `device`.
 #[tactic(auto, unfolding(crate::specs::inner::Found::board_found))]
 fn board_called<'a>(
     alloc: Global,
@@ -73,8 +73,9 @@ fn board_called<'a>(
     }
 }
 
-// Returns the command of the subcommand with this name, if it is `diagnose`, `groups` or `batch`.
-// These read response logs.
+// Returns the command of the subcommand with this name, if the name is `diagnose`, `groups` or
+// `batch`, whose commands read response logs. Returns `None` for any other name, or if the values
+// form no command.
 #[tactic(auto, unfolding(crate::specs::inner::Found::log_found))]
 fn log_called<'a>(
     alloc: Global,
@@ -167,8 +168,9 @@ fn board_in<'a>(alloc: Global, found: &ArgMatches<'a>) -> Result<Option<BoardNam
     }
 }
 
-// Returns the names of a file of response logs and of the files of its board, or `None` if there are more than 255 BSDL
-// names.
+// Returns the names of a file of response logs and of the files of its board. Returns `None` if the
+// name of the log file, the chain file or the net file is missing, or if there are more than 255
+// BSDL names.
 fn log_in<'a>(alloc: Global, found: &ArgMatches<'a>) -> Result<Option<LogNames<'a>>, AllocError>
     ensures { IfOk result (λ names. names ≡ log_in (rows_of (found_of found.now))) }
 {
@@ -266,7 +268,8 @@ fn make_command<'a>(found: &ArgMatches<'a>) -> Option<NamedCommand<'a>>
     Some(Command::Make(parts))
 }
 
-// Returns the number of workers, or `None` if it is missing or out of range.
+// Returns the number of workers (the threads that work on a diagnosis), or `None` if it is missing
+// or out of range.
 fn workers_in(found: &ArgMatches) -> Option<Workers>
     ensures { result ≡ workers_in (rows_of (found_of found.now)) }
 {

@@ -89,7 +89,7 @@ fn names_command<'a>(
     with_names(alloc, words_command(alloc, name, words))
 }
 
-// Returns the top command, without its subcommands.
+// Returns the top command, which stands for the program, without its subcommands.
 fn top_command<'a>(alloc: Global) -> clap::Command<'a>
     ensures app { app_of result ≡ top_app }
     ensures local { (fields_of result).has_globals ≡ false }

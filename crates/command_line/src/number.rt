@@ -1,4 +1,4 @@
-// The numbers in the words of a command.
+// The numbers that words of a command denote: a number of parts, and a number of workers.
 ghost use Rattle.std.specs.Prelude.{◌≡◌, ◌≤◌, IfSome};
 ghost use Rattle.std.specs.Char.{is_ascii_digit};
 ghost use Rattle.std.specs.List.{list_all};
@@ -9,7 +9,7 @@ ghost use Rattle.command_line.specs.Words.{number_of};
 use side_by_side::{MOST_WORKERS, Workers};
 use std::marker::Model;
 
-/// The largest number of digits of a number.
+/// The largest number of digits in a word that denotes a number.
 const MOST_DIGITS: usize = 20;
 
 // The largest number of parts of a generated board.
@@ -35,8 +35,8 @@ impl Model for PartCount {
 }
 
 impl PartCount {
-    /// Returns the number of parts that a word denotes, or `None` if the word is not a number from
-    /// 1 to 255.
+    /// Returns the number of parts that a word of 1 to 20 decimal digits denotes. Returns `None` if
+    /// the number is not from 1 to 255, or if the word has another form.
     pub fn of_word(word: &str) -> Option<PartCount>
         ensures { result ≡ number_of most_made word.now }
     {
@@ -54,7 +54,8 @@ impl PartCount {
     }
 }
 
-/// Returns the number of workers that a word denotes, or `None` if the word is no number from 1 to 64.
+/// Returns the number of workers that a word of 1 to 20 decimal digits denotes. Returns `None` if
+/// the number is not from 1 to 64, or if the word has another form.
 pub fn workers_of(word: &str) -> Option<Workers>
     ensures { result ≡ number_of most_workers word.now }
 {

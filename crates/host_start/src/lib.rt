@@ -27,7 +27,7 @@ fn words(rt: &(impl Env + AllocGlobal)) -> io::Result<Vec<String>> {
 }
 
 // Runs the command that these words form, and returns the exit status. The command's output goes to
-// `out`, and a line for standard error to `notes`.
+// `out`. A line for standard error, if there is one, goes to `notes`.
 fn end_with<R: Threads + Sync, S: Store, K: Sink, N: Sink>(
     rt: &R,
     alloc: Global,
@@ -87,9 +87,9 @@ fn end_of<R: Threads + Sync, S: Store, K: Sink, N: Sink>(
     }
 }
 
-/// Runs the command that the words of the command line form. Reads files of the system, writes the
-/// output to standard output, and writes a line for standard error to `notes`. Returns the exit
-/// status.
+/// Runs the command that the words of the command line form. Reads files of the system, and writes
+/// the output to standard output. If there is a line for standard error, writes it to `notes`.
+/// Returns the exit status.
 pub fn start<R, E>(rt: &R, notes: E) -> ExitCode
 where
     R: AllocGlobal + Env + Files + Print + Sync + Threads,

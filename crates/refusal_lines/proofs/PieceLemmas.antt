@@ -5,7 +5,7 @@ use Rattle.line_printer.proofs.PrintLemmas.{whole-split}
 use Rattle.refusal_lines.specs.Refusals.{Text}
 use Rattle.line_printer.specs.Prints.{whole}
 
--- if writing the first piece succeeds, the sink took this piece and no other piece
+-- if writing the first piece succeeds, the sink took this piece and nothing else
 pub puts_first : {E : Type 0} {old mid : Shown} {first : Text} {r : Result (Unit {0}) E}
     {x : Unit {0}} → Puts old mid first r → r ≡ Ok x
     → Puts {T = Unit {0}} {E = E} old mid (first ++ []) (Ok tt)

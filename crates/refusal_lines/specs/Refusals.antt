@@ -1,4 +1,4 @@
--- The lines on standard error.
+-- The lines that btest writes to standard error.
 use Rattle.std.specs.Prelude.{ℕ, List, [], ◌∷◌, codes, decimal, slice_get, unwrap_or}
 use Rattle.line_printer.specs.Prints.{whole}
 use Rattle.board_defs.specs.declared.spot.Spot.{Spot}
@@ -72,7 +72,7 @@ pub record Names : Type 0 where
 abbrev pub text_name : List Text → ℕ → Text
 text_name names n = unwrap_or (slice_get names n) []
 
--- the line for the limit with this number
+-- the line for a board that exceeds the limit with this number
 abbrev pub limit_line : ℕ → Text
 limit_line which = whole (codes "limit: " ∷ limit_name which ∷ codes "\n" ∷ [])
 
@@ -147,7 +147,8 @@ log_fault_line name rows (log.Missing found) =
     whole (name ∷ codes ": " ∷ decimal found ∷ codes " rows of " ∷ decimal rows ∷ codes "\n" ∷ [])
 log_fault_line name rows (log.Memory e) = memory_line
 
--- The line for a block of a batch that is not a log of `rows` rows. The block is block `board`, counted from 1.
+-- The line for a block of a batch that is not a log of `rows` rows. A block has the lines of one
+-- board. This block is block `board`, counted from 1.
 abbrev pub block_fault_line : Text → ℕ → ℕ → LogFault → Text
 block_fault_line name rows board (log.Digit n) = log_fault_line name rows (log.Digit n)
 block_fault_line name rows board (log.Length n) = log_fault_line name rows (log.Length n)

@@ -1,4 +1,5 @@
-//! The lines on standard error. A line says what is wrong with the words or the texts of a command, or what failed.
+//! The lines that btest writes to standard error. A line says what is wrong with the words or the
+//! texts of a command, or what failed.
 #![tactic(auto)]
 
 mod ends;

@@ -93,8 +93,8 @@ fn put_missing_of_board<N: Sink>(
     )
 }
 
-// Writes the line for a block of a batch that is not a log of `rows` rows. The block is block
-// `board`, counted from 1.
+// Writes the line for a block of a batch that is not a log of `rows` rows. A block has the lines of
+// one board. This block is block `board`, counted from 1.
 fn put_block_fault<N: Sink>(
     name: &str,
     rows: u64,

@@ -1,4 +1,4 @@
-// Writes lines in pieces.
+// Writes a line in several pieces, with one write for each piece.
 ghost use Rattle.std.specs.Prelude.{◌≡◌, ◌++◌, map};
 ghost use Rattle.bt_base.specs.Puts.{Puts};
 ghost use Rattle.line_printer.specs.Prints.{whole};

@@ -31,7 +31,7 @@ fn put_line_fault<N: Sink>(name: &str, fault: &LineFault, notes: &mut N) -> Resu
     }
 }
 
-// Writes the line for the limit with number `which`.
+// Writes the line for a board that exceeds the limit with number `which`.
 fn put_limit<N: Sink>(which: u32, notes: &mut N) -> Result<(), PutFault>
     ensures { Puts (N.shown notes.old) (N.shown notes.new) (limit_line which) result }
 {
@@ -107,7 +107,7 @@ fn put_parse_fault<N: Sink>(name: &str, fault: &ParseFault, notes: &mut N) -> Re
     }
 }
 
-// Writes the line for a device rule that fails.
+// Writes the line for device rule number `rule`. `item` is the first item that breaks the rule.
 fn put_rule<N: Sink>(name: &str, rule: u32, item: u32, notes: &mut N) -> Result<(), PutFault>
     ensures { Puts (N.shown notes.old) (N.shown notes.new) (rule_line name.now rule item) result }
 {
@@ -128,7 +128,8 @@ fn put_rule<N: Sink>(name: &str, rule: u32, item: u32, notes: &mut N) -> Result<
     )
 }
 
-// Writes the line for a string that does not fit its grammar. `entry` is its first entry that does not fit.
+// Writes the line for a string that does not fit its grammar. `attribute` is the number of the
+// string, and `entry` is its first entry that does not fit.
 fn put_string_fault<N: Sink>(
     name: &str,
     attribute: u32,

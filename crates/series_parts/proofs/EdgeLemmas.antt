@@ -388,8 +388,8 @@ renames_by nets chain least name is (Some m) e =
     ap (λ l. get_or l m name) is ∙ get_or-map f names m [] name inside
     ∙ ap (λ i. f (at names i)) same ∙ ap f (same_is (at names r.0) name r.2.passes)
 
--- `renamed` looks up the net's first line, so it gives the joined name of every net, on a line or
--- not
+-- `renamed` looks up the net's first line, so it gives the joined name of every net, whether the
+-- net is on a line or not
 pub renames : (nets : List NetLine) (chain : List ChainLine) (least : List Word) (name : Word)
     → least ≡ map (joined_name (links nets chain) (line_names nets)) (line_names nets) →
     renamed (line_names nets) least name ≡ joined_name (links nets chain) (line_names nets) name

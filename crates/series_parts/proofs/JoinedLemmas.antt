@@ -34,7 +34,7 @@ joined_min edges x a b p q (inl e) = subst (λ (y : ℕ). Joined edges x y) (sym
 joined_min edges x a b p q (inr e) = subst (λ (y : ℕ). Joined edges x y) (sym e) q
 
 -- if edges join the labels `a` and `b`, and `x` is joined with its label `v`, then `x` is joined
--- with its label after `a` and `b` are merged
+-- with its new label after the labels `a` and `b` are both replaced by the lower of them
 lowered_joined : (edges : Edges) (x a b v : ℕ) → Joined edges x v → Joined edges a b
     → (v ≡ a) ⊎ (v ≡ a → ⊥) → (v ≡ b) ⊎ (v ≡ b → ⊥) → Joined edges x (lowered a b v)
 lowered_joined edges x a b v p edge (inl e) other =
@@ -62,7 +62,8 @@ ends_more edges i a b k c d label edge old lt e (inl same) =
     ∙ sym (lowered_at (label a) (label b) (label b) (inr refl)) ∙ ap (merged label a b) (sym db)
 ends_more edges i a b k c d label edge old lt e (inr ne) = ap (lowered (label a) (label b)) (old k c d (omega arith) e)
 
--- one step of the loop: edge `i` joins `a` and `b`, so their labels are merged
+-- one step of the loop: edge `i` joins `a` and `b`, so the labels of these points are both replaced
+-- by the lower of them
 pub reflects_more : (edges : Edges) (i a b : ℕ) (old new : List ℕ) (label : ℕ → ℕ)
     → slice_get edges i ≡ Some (a, b) → Reflects edges i old label
     → IsLabelling new (merged label a b) → Reflects edges (i + 1) new (merged label a b)

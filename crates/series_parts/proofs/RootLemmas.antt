@@ -132,7 +132,8 @@ lowered_keeps_first a b v lt ne = grind arith
 pub lowered_same : (a b v : ℕ) → a ≡ b → lowered a b v ≡ v
 lowered_same a b v e = grind arith
 
--- if the root of `b` is higher and gets the root of `a` as its parent, the labels of `a` and `b` are merged
+-- if the root of `b` is higher and gets the root of `a` as its parent, the labels of `a` and `b`
+-- are both replaced by the lower of them
 pub joined_second : (parents : List ℕ) (a b low high : ℕ) (label : ℕ → ℕ) → high < length parents
     → low < high → low ≡ label a → high ≡ label b → label low ≡ low → label high ≡ high
     → IsLabelling parents label → IsLabelling (set parents high low) (merged label a b)
@@ -142,7 +143,8 @@ joined_second parents a b low high label within lt is_low is_high own_low own_hi
     (labels-linked parents low high label (lowered low high) within lt own_low own_high
     (lowered_second low high lt) (λ v ne. lowered_keeps_second low high v lt ne) h))
 
--- if the root of `a` is higher and gets the root of `b` as its parent, the labels of `a` and `b` are merged
+-- if the root of `a` is higher and gets the root of `b` as its parent, the labels of `a` and `b`
+-- are both replaced by the lower of them
 pub joined_first : (parents : List ℕ) (a b low high : ℕ) (label : ℕ → ℕ) → high < length parents
     → low < high → high ≡ label a → low ≡ label b → label low ≡ low → label high ≡ high
     → IsLabelling parents label → IsLabelling (set parents high low) (merged label a b)

@@ -1,4 +1,5 @@
-// The edges between lines whose nets are joined. An edge is the pair of the indices of two lines.
+// The edges between lines of a net file. An edge joins two lines whose nets have the same name or
+// are linked by a LINK line. It is the pair of the indices of these lines.
 ghost use Rattle.std.specs.Prelude.{All, ◌≡◌, ◌<◌, ◌^◌, ◌++◌, length, unwrap_or, IfOk, OnOk};
 ghost use Rattle.board_files.specs.Names.{line_names};
 ghost use Rattle.series_parts.specs.inner.Edges.{edge_between, edge_of, edge_on, edges, link_edges, name_edges, name_place};
@@ -18,8 +19,8 @@ fn edge_of(first: Option<u32>, second: Option<u32>) -> Option<(usize, usize)>
     }
 }
 
-/// Returns the edge between the first lines of two pins of a part. Returns None if one of the pins
-/// is on no line.
+/// Returns the edge between the first line with pin `first` of a part and the first line with pin
+/// `second` of this part. Returns None if one of the pins is on no line.
 #[tactic(auto, unfolding(crate::specs::inner::Edges::edge_between))]
 fn edge_between(pins: &Pins<'_>, part: &[u8], first: &[u8], second: &[u8]) -> Option<(usize, usize)>
     ensures { result ≡ edge_between pins.now part.now first.now second.now }

@@ -42,8 +42,8 @@ fn copy_pins(alloc: Global, pins: &[PinWord]) -> Result<Vec<PinWord>, AllocError
     Ok(copies)
 }
 
-/// Returns the new name of a net. `least` has the new names of the nets on the lines. A net that is
-/// on no line keeps its name.
+/// Returns the new name of a net. `least` has, for each line, the new name of the line's net. A net
+/// that is on no line keeps its name.
 #[tactic(auto, unfolding(crate::specs::inner::Edges::renamed))]
 fn renamed<'a>(names: &Names<'_>, least: &[&'a [u8]], name: &'a [u8]) -> &'a [u8]
     ensures { result.now ≡ renamed names.now (map (λ n. n.now) least.now) name.now }

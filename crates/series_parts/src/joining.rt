@@ -20,8 +20,8 @@ pub struct Joined {
     pub nets: NetFile,
 }
 
-/// Returns the files in which each net has the name of the first net on the lines that is joined
-/// with it. `pins` must have the lines of `nets`.
+/// Returns the files in which each net that the net file names has the name of the first net in the
+/// net file that is joined with it. `pins` must have the lines of `nets`.
 fn renamed_files(
     alloc: Global,
     chain: &ChainFile,

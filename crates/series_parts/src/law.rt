@@ -28,7 +28,8 @@ pub fn unlinked_files()
 /// A joined chain file has no LINK line. Its DEVICE and BYPASS lines, and the line numbers of all
 /// its lines, are those of the chain file. If the lengths on the chain file's BYPASS lines are from
 /// 2 to 255 bits, so are those of the joined chain file. A joined net file has the line numbers and
-/// the pins of the net file, line by line. Both files keep their numbers of lines.
+/// the pins of the net file, line by line. Each joined file has as many lines as the file from
+/// which it is made.
 pub fn kept_lines()
     ensures links { (chain : List ChainLine) (nets : List NetLine)
         → has_link (joined_chain chain nets) ≡ false }

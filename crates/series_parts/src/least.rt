@@ -30,7 +30,7 @@ fn names_at<'a>(
     Ok(found)
 }
 
-/// Returns the joined name of each line's net: the name of the first net on the lines that is
+/// Returns the joined name of each line's net: the name of the first net in the net file that is
 /// joined with the line's net. `names` must be the names on the lines of `pins`.
 pub fn least_names<'a>(
     alloc: Global,

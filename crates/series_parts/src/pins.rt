@@ -1,4 +1,4 @@
-// The first line that has each pin.
+// Finds the first line of a net file that has a given pin.
 ghost use Rattle.std.specs.Prelude.{◌≡◌, ◌<◌, ◌^◌, ◌&&◌, if◌then◌else◌, length, IfOk, OnOk, List, ℕ, Some};
 ghost use Rattle.std.proofs.Common.{Bor};
 ghost use Rattle.indexmap.specs.IndexMap.{get_by};

@@ -111,7 +111,7 @@ marked_spot m = spot_of m.word
 abbrev pub pin_with : Marked → NetPin
 pin_with m = record { part = (word_pin m.word).0; pin = (word_pin m.word).1; at = m.at; inert = m.inert }
 
--- the pins of net `n`, in the order of the words
+-- the group of net `n`, which is the list of its pins, in the order of the words
 abbrev pub marked_group : List Marked → ℕ → List NetPin
 marked_group words n = map pin_with (filter (λ m. marked_net m == n) words)
 
@@ -124,12 +124,13 @@ groups_after (Some word) count groups =
     then slice_set groups word.net
     (slice_index_or groups word.net [] ++ pin_with (seen_word word) ∷ []) else groups
 
--- the nets, followed by the net with this name and this group if there is a name and a group
+-- `nets`, followed by the net with this name and this group; `nets` alone if there is no name or no
+-- group
 abbrev pub nets_after : {A G N : Type 0} → (A × G → N) → Option A → Option G → List N → List N
 nets_after f None group nets = nets
 nets_after f (Some name) group nets = nets ++ option_to_list (option_map (λ g. f (name, g)) group)
 
--- the marks, followed by the mark of the word if there is a word
+-- `marks`, followed by the value of `f` for the word; `marks` alone if there is no word
 abbrev pub marks_after : {A N : Type 0} → (A → N) → Option A → List N → List N
 marks_after f None marks = marks
 marks_after f (Some word) marks = marks ++ f word ∷ []

@@ -1,5 +1,5 @@
--- Choices with borrowed packages, and lists of devices that belong to choices. A choice is the
--- number of a text and a package.
+-- Choices whose packages are borrowed, and lists of devices that belong to choices. A choice has
+-- the number of a text, and a package if the DEVICE line gives one.
 use Rattle.std.specs.Prelude.{◌≡◌, ℕ, List, Option, Some, Ok, map, option_copied, slice_get}
 use Rattle.std.specs.Borrow.{Bor}
 use Rattle.board_defs.specs.declared.device.RawDevice.{RawDevice}

@@ -18,14 +18,16 @@ bsdl_in rows = unwrap_or (all_of (codes "BSDL") rows) []
 abbrev pub few_in : List Row → Option (List Text)
 few_in rows = with_names (bsdl_in rows) (bsdl_in rows)
 
--- the names of a chain's files in the matches, or `None` if there are more than `most_names` BSDL names
+-- the names of a chain's files in the rows; `None` if the name of the chain file is missing or
+-- there are more than `most_names` BSDL names
 abbrev pub chain_in : List Row → Option ChainNames
 chain_in rows =
     option_and_then
     (λ chain. option_map (λ bsdl. record { chain = chain; bsdl = bsdl }) (few_in rows))
     (first_of (codes "CHAIN") rows)
 
--- the names of a board's files in the matches, or `None` if there are more than `most_names` BSDL names
+-- the names of a board's files in the rows; `None` if the name of the chain file or of the net file
+-- is missing or there are more than `most_names` BSDL names
 abbrev pub board_in : List Row → Option BoardNames
 board_in rows =
     option_and_then
@@ -33,7 +35,9 @@ board_in rows =
     (λ nets. option_map (λ bsdl. record { chain = chain; nets = nets; bsdl = bsdl })
     (few_in rows)) (first_of (codes "NETS") rows)) (first_of (codes "CHAIN") rows)
 
--- the names of a file of response logs and of its board's files in the matches, or `None` if there are more than `most_names` BSDL names
+-- The names of a file of response logs and of its board's files in the rows. It is `None` if the
+-- name of the log file, the chain file or the net file is missing, or if there are more than
+-- `most_names` BSDL names.
 abbrev pub log_in : List Row → Option LogNames
 log_in rows =
     option_and_then

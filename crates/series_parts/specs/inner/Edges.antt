@@ -22,7 +22,8 @@ pin_place nets part pin = position_from (has_pin part pin) 0 nets
 abbrev pub edge_of : Option ℕ → Option ℕ → Option (ℕ × ℕ)
 edge_of a b = option_and_then (λ a. option_map (λ b. (a, b)) b) a
 
--- the edge between the first lines of two pins of a part, if each pin is on a line
+-- the edge between the first line with pin `first` of a part and the first line with pin `second`,
+-- if each of these pins is on a line
 unfoldable pub edge_between : List NetLine → Word → Word → Word → Option (ℕ × ℕ)
 edge_between nets part first second = edge_of (pin_place nets part first) (pin_place nets part second)
 
@@ -51,6 +52,6 @@ abbrev pub at_place : List Word → Word → Option ℕ → Word
 at_place least name None = name
 at_place least name (Some place) = get_or least place name
 
--- the new name of a net, if `least` has the new names of the nets on the lines
+-- the new name of a net; `least` has, for each line, the new name of the line's net
 unfoldable pub renamed : List Word → List Word → Word → Word
 renamed names least name = at_place least name (name_place names name)

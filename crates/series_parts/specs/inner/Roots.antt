@@ -1,5 +1,5 @@
--- Classes of points as trees. From each point, the path along the parents leads to the root of its
--- class.
+-- Classes of points as trees. A class is a set of points that edges join. Each point has a parent.
+-- The path along the parents leads from a point to the root of its class, which is its own parent.
 use Rattle.std.specs.Prelude.{◌≡◌, ℕ, ◌<◌, ◌≤◌, ◌==◌, ◌||◌, min, List, length, Some, slice_get, slice_index, if◌then◌else◌}
 use Rattle.series_parts.specs.inner.Labels.{Edges, Joined}
 

@@ -2,7 +2,7 @@ use Rattle.std.proofs.Common.{◌≡◌, ◌<◌, ℕ, [], map, take, get_or, ve
 use Rattle.board_build.specs.inner.Marked.{marked_group, seen_word}
 use Rattle.board_build.proofs.nets.groups.Given as goal
 
--- the group of each net has the net's pins from the first `i` words
+-- the group of each net has the pins of the net that the first `i` words name
 abbrev pub invariant-loop-i : goal.invariant-loop-i
 invariant-loop-i l = record {
   count : vec_len l.groups ≡ l.count;

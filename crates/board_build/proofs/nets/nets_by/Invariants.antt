@@ -6,7 +6,8 @@ use Rattle.board_files.specs.Names.{same_word}
 use Rattle.board_build.specs.inner.Marked.{net_by}
 use Rattle.board_build.proofs.nets.nets_by.Given as goal
 
--- the nets so far, followed by the nets of the remaining names and groups, are all nets
+-- The nets made so far, followed by the nets of the remaining names and groups, are the nets of all
+-- names and groups.
 abbrev pub invariant-loop-i : goal.invariant-loop-i
 invariant-loop-i l =
     map

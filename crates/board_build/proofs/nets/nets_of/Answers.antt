@@ -1,4 +1,5 @@
--- Net `n` has the group with the number `n`.
+-- Net `n` gets the pins of group `n`: the pins whose words belong to net `n`, in the order of the
+-- words.
 use Rattle.std.proofs.Common.{◌≡◌, ◌+◌, length, map, ap, ◌∙◌, arith}
 use Rattle.std.proofs.lemmas.List.{length-map}
 use Rattle.std.proofs.lemmas.Result.{IfOk-weaker}

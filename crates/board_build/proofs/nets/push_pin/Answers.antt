@@ -1,4 +1,5 @@
--- One more pin is appended to the group with this number, and the other groups stay the same.
+-- The pin is appended to the list of pins of the net with this number, and the lists of the other
+-- nets stay the same.
 use Rattle.std.proofs.Common.{◌≡◌, ◌<◌, ◌∷◌, [], ◌++◌, length, map, set, get_or, ap, sym, ◌∙◌, arith}
 use Rattle.std.proofs.lemmas.List.{map-set, get_or-map}
 use Rattle.board_build.proofs.nets.push_pin.Goals as goal

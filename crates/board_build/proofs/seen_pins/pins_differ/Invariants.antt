@@ -6,7 +6,7 @@ use Rattle.board_build.specs.inner.Marked.{seen_word}
 use Rattle.board_build.specs.inner.SeenPins.{are_one, is_known_pin}
 use Rattle.board_build.proofs.seen_pins.pins_differ.Given as goal
 
--- the words so far name different pins, and the set of known pins has these pins
+-- the words visited so far name different pins, and the set of known pins has these pins
 abbrev pub invariant-loop-word : goal.invariant-loop-word
 invariant-loop-word l = record {
   differ : first_repeated (λ a b. are_one (seen_word a) (seen_word b)) l.words

@@ -1,4 +1,5 @@
--- The keys of the map are borrowed names.
+-- The keys of the map are borrowed names. A look-up by a borrowed name gives the same value as a
+-- look-up by the name itself.
 use Rattle.std.proofs.Common.{◌∙◌}
 use Rattle.std.proofs.lemmas.Result.{IfOk-weaker}
 use Rattle.board_files.specs.Names.{same_word}

@@ -1,4 +1,5 @@
--- The names in the list are borrowed.
+-- The names in the list are borrowed. A list of borrowed names has the same first repeat as the
+-- list of the names themselves.
 use Rattle.std.proofs.Common.{◌∙◌}
 use Rattle.std.proofs.lemmas.Result.{IfOk-weaker}
 use Rattle.board_lines.proofs.NameLemmas.{first_repeat_lent}

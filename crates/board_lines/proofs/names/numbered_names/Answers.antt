@@ -1,4 +1,5 @@
--- The names in the list are borrowed.
+-- The names in the list are borrowed. They have the same distinct names and the same indices as the
+-- names themselves.
 use Rattle.std.proofs.Common.{◌∙◌, map, ap}
 use Rattle.std.specs.Prelude.{unwrap_or}
 use Rattle.std.proofs.lemmas.Result.{IfOk-weaker}

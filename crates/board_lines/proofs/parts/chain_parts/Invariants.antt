@@ -5,8 +5,9 @@ use Rattle.board_defs.specs.BoardRules.{IsPart}
 use Rattle.board_lines.specs.ChainParts.{chain_parts}
 use Rattle.board_lines.proofs.parts.chain_parts.Given as goal
 
--- the parts so far, followed by the parts that the remaining lines make of the remaining devices,
--- are all parts; each part so far keeps the rules of a part
+-- The parts made so far, followed by the parts that the remaining lines make of the remaining
+-- devices, are the parts that all lines make of all devices. Each part made so far keeps the rules
+-- of a part.
 abbrev pub invariant-loop-line : goal.invariant-loop-line
 invariant-loop-line l = record {
   parts : chain_parts l.lines l.fn.devices.items ≡ l.parts.items ++ chain_parts (drop l.line-index l.lines) (into_iter_items l.devices);

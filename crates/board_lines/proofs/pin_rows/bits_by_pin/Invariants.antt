@@ -5,7 +5,7 @@ use Rattle.board_files.specs.Names.{same_word}
 use Rattle.board_lines.specs.PinRows.{has_pin_named}
 use Rattle.board_lines.proofs.pin_rows.bits_by_pin.Given as goal
 
--- for each pin, the map has the first of the port bits from `i` on with this pin
+-- for each pin, the map gives the first of the port bits from `i` on with this pin
 abbrev pub invariant-loop-i : goal.invariant-loop-i
 invariant-loop-i l = record {
   within : l.i ≤ length l.bits.items.now;

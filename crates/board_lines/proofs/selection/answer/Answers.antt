@@ -1,4 +1,4 @@
--- The answer is the first fault, or the numbers if there is no fault.
+-- The answer is the first fault, or, if there is no fault, the index of each DEVICE line's entity.
 use Rattle.std.proofs.Common.{◌∙◌, map, ap, sym}
 use Rattle.std.specs.Prelude.{unwrap_or}
 use Rattle.board_lines.specs.Faults.{unless}

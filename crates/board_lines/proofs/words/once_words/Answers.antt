@@ -1,4 +1,5 @@
--- The pins of the words are borrowed names.
+-- The pins of the words are borrowed names. The same words are left out as if the pins were the
+-- names themselves.
 use Rattle.std.proofs.Common.{◌∙◌, map, ap}
 use Rattle.std.proofs.lemmas.Result.{IfOk-weaker}
 use Rattle.board_lines.specs.NetWords.{lent_word, same_place}

@@ -2,8 +2,9 @@ use Rattle.std.proofs.Common.{◌≡◌, ◌+◌, ◌++◌, map, drop}
 use Rattle.board_lines.specs.NetWords.{lent_word, line_words}
 use Rattle.board_lines.proofs.words.push_line.Given as goal
 
--- the words so far, followed by the words of the remaining pins, are the words before the call
--- followed by all words of the line; pin `j` of the line, counted from 0, is word `j + 3`
+-- The current words, followed by the words for the remaining pins, are the words before the call,
+-- followed by the words for all pins of the line. Pin `j` of the line, counted from 0, is word
+-- `j + 3`.
 abbrev pub invariant-loop-pin : goal.invariant-loop-pin
 invariant-loop-pin l = record {
   number : l.word ≡ l.pin-index + 3;

@@ -1,4 +1,5 @@
--- The labels are read after all edges are joined, so the two ends of each edge have the same label.
+-- The labels are read after the ends of all edges are joined, so the two ends of each edge have the
+-- same label.
 use Rattle.std.proofs.Common.{◌≡◌, length, vec_len, sym, ◌∙◌, arith}
 use Rattle.series_parts.proofs.JoinedLemmas.{labels_read, if_ok_both, ends_within}
 use Rattle.series_parts.proofs.classes.labels.Goals as goal

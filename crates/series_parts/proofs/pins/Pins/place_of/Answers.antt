@@ -1,4 +1,5 @@
--- The map has the first line of each pin, by the name of the pin's part and the pin's own name.
+-- The map gives, for each pin, the first line with this pin. A key of the map has the name of the
+-- pin's part and the pin's own name.
 use Rattle.std.proofs.Common.{◌∙◌, ap}
 use Rattle.series_parts.specs.inner.Edges.{pin_place}
 use Rattle.series_parts.proofs.pins.Pins.place_of.Goals as goal
