@@ -51,7 +51,8 @@ pairs_by R test gives (x ∷ xs) h (suc i) (suc j) d less within =
     pairs_by R test gives xs (and_parts (list_all (test x) xs) (later_pass test xs) h).1 i j d
     (omega arith) (omega arith)
 
--- If no item clashes with a later one, two items that clash in both orders are at the same place.
+-- Suppose that `clash` is false for each item and each later item. Two items for which `clash` is true in both orders are then at the same
+-- place.
 pub one_by : {X : Type 0} (clash : X → X → Bool) (xs : List X)
     → later_pass (λ x y. not (clash x y)) xs ≡ true → (i j : ℕ) (x y : X) → slice_get xs i ≡ Some x
     → slice_get xs j ≡ Some y → clash x y ≡ true → clash y x ≡ true → i ≡ j

@@ -1,4 +1,5 @@
--- On a board that keeps the rules, a setting is safe if and only if each of its controls alone and every two of its controls are safe.
+-- On a board that keeps the rules of boards, a setting is safe if and only if each of its controls is safe alone and any two of its
+-- controls are safe together.
 use Rattle.std.proofs.Common.{◌≡◌, ◌≢◌, ℕ, true, Option, Some, None, refl, ◌∙◌, ap, ◌⊎◌, inl, inr}
 use Rattle.std.specs.Prelude.{slice_get, option_map}
 use Rattle.std.proofs.lemmas.Bool.{both_ways, false_from_ne_true, or_left, or_right, or_cases}

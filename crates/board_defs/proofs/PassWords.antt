@@ -1,4 +1,4 @@
--- The tests that choose the passes agree with the definitions of their terms.
+-- The Boolean functions that choose the passes agree with the definitions of their terms.
 use Rattle.std.proofs.Common.{◌≡◌, ℕ, ◌+◌, ◌<◌, ◌==◌, true, false, ◌&&◌, List, [], Option, Some, None, refl, sym, ◌∙◌, ap, subst, arith}
 use Rattle.std.specs.Prelude.{slice_get, option_and_then, IsTrue, nat_lt, Contains, ◌↔◌}
 use Rattle.std.specs.Bool.{Decides}

@@ -1,4 +1,4 @@
--- If some safe setting observes or tests something, some pass of the board does so.
+-- If some safe setting observes a net or two paired nets, or tests a driver or a receiver, some pass of the board does the same.
 use Rattle.std.proofs.Common.{◌≡◌, ℕ, ◌<◌, Bool, true, false, ◌&&◌, List, [], ◌∷◌, ◌++◌, length, Option, Some, None, refl, sym, ◌∙◌, ap, subst, cond, ◌⊎◌, inl, inr}
 use Rattle.std.specs.Prelude.{slice_get}
 use Rattle.std.specs.List.{list_any}

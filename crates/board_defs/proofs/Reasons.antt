@@ -1,4 +1,4 @@
--- The first reason that applies to a net that is not covered.
+-- `first_reason` gives the first reason that applies to a net that is not covered.
 use Rattle.std.proofs.Common.{◌≡◌, ℕ, ◌<◌, ◌≤◌, Bool, true, false, not, Option, Some, None, refl, ap, arith, cond}
 use Rattle.std.specs.Prelude.{slice_get, is_some, MatchOption}
 use Rattle.std.specs.List.{list_any}

@@ -218,8 +218,8 @@ test_from_own board c own = false_from_ne_true (enables_one_sided board c) (λ h
     from : FoundBelow (count_port_bits board c.part) F → ⊥
     from r = let at : PinAt = record { part = c.part; bit = r.number } in by_entry at refl (entry_at board at) refl r.passes
 
--- The conditions of safety on nets: no two controlled drivers of a net are enabled, and none is enabled on a closed net. They suffice for
--- a setting that enables no one-sided driver.
+-- The conditions of safety on nets: no two controlled drivers of a net are enabled, and none is enabled on a net that is guarded or has an
+-- always-on driver (`is_closed`). They suffice for a setting that enables no one-sided driver.
 pub record NetsAdmit (board : RawBoard) (s : Enabling) : Type 0 where
   pub apart : (n : ℕ) (net : Net) (i j : ℕ) (p q : NetPin) (c d : Ctl)
       → slice_get board.nets n ≡ Some net → slice_get net.pins i ≡ Some p

@@ -110,7 +110,7 @@ kinds = board (mixed ∷ []) []
 kinds_rules : IsBoard kinds
 kinds_rules = board_of kinds refl
 
--- For a pin of the first part: whether it is dark, whether it receives, and how its driver is enabled.
+-- three facts about a pin of part 0: whether it is dark, whether it is a receiver, and how its driver is enabled
 abbrev is : RawBoard → ℕ → Bool × Bool × Option Drive
 is b port = (is_dark b (leg 0 port), receives b (leg 0 port), drive b (net 0 None []) (leg 0 port))
 
@@ -177,7 +177,7 @@ tap_not_dark = refl
 test_pins : map (is_test_pin kinds) (leg 0 3 ∷ leg 0 14 ∷ tap_pins) ≡ false ∷ true ∷ true ∷ true ∷ []
 test_pins = refl
 
--- The bits of a vector can differ. The first bit of each of A(1 to 2), B(1 to 2) and C(1 to 2) has an entry. The second bit
+-- The bits of a vector can have different entries. The first bit of each of A(1 to 2), B(1 to 2) and C(1 to 2) has an entry. The second bit
 -- of A has none, that of B has an OBSERVE_ONLY entry, and that of C has an INPUT entry.
 abbrev half : ℕ → ℕ → Mode → ℕ → PortBit
 half port index mode b = port_bit (4 + port) (Some index) mode (Some (letter b)) false

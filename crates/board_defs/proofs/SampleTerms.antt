@@ -33,7 +33,7 @@ reason supply more = reasons (meeting supply more)
 abbrev usable : Bool → List NetPin → Bool
 usable supply more = is_safe_alone (meeting supply more) (c 0 1)
 
--- with an input, an OBSERVE_ONLY pin and a pin of an inert part as further pins, the net is covered
+-- with an input, a pin with an OBSERVE_ONLY entry and a pin of an inert part as further pins, the net is covered
 open_net : reason false (leg 2 3 ∷ leg 2 4 ∷ inert ∷ []) ≡ None ∷ []
 open_net = refl
 
@@ -83,8 +83,8 @@ supply_first = refl
 test_before_dark : reason false (foreign (codes "RAM") ∷ clock 2 ∷ []) ≡ Some TestPort ∷ []
 test_before_dark = refl
 
--- The reasons of a net with these pins. The parts have a three-state driver, a bidirectional pin, an always-on driver and a driver
--- that its own cell enables.
+-- The reason why a net with these pins is not covered, or None if it is covered. The parts of the board have a three-state driver, a
+-- bidirectional pin, an always-on driver and a driver that its own cell enables.
 abbrev alone : List NetPin → List (Option Reason)
 alone pins = reasons (board (ts ∷ bi ∷ rcv ∷ mixed ∷ od ∷ []) (net 0 None pins ∷ []))
 
@@ -99,8 +99,8 @@ no_driver = refl
 one_sided : alone (pin 4 0 ∷ pin 2 0 ∷ []) ≡ Some Blocked ∷ []
 one_sided = refl
 
--- Nets on which no other pin receives: the other pin is missing, is OBSERVE_ONLY, or is an output that an entry reads, or the only
--- receiver is the driver itself.
+-- Four nets with a driver and no receiver on another pin. The first net has only the driver. On the second, the other pin has an
+-- OBSERVE_ONLY entry. On the third, the other pin is an output with an INPUT entry. On the fourth, the only receiver is the driver's pin.
 no_receiver : alone (pin 0 0 ∷ []) ≡ Some NoReceiver ∷ []
 no_receiver = refl
 

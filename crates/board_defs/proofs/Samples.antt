@@ -151,8 +151,8 @@ bus_rules = board_of bus refl
 bus_passes : passes_of bus ≡ (c 0 1 ∷ []) ∷ (c 1 1 ∷ []) ∷ []
 bus_passes = refl
 
--- A board on which net 1 has drivers of both controls. Net 1 is paired with each of the other two nets, and those two are not paired with
--- each other.
+-- A board with the device `two`. Net 1 has a driver of each control of this device, and is paired with each of the other two nets, and
+-- those two are not paired with each other.
 abbrev pub crossing : RawBoard
 crossing =
     board (two ∷ rcv ∷ rcv ∷ [])

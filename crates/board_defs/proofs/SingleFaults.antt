@@ -112,7 +112,8 @@ open_is board rules s h = by_value r.2
     by_value (inr (inl e)) = let P : Single → Type 0 = λ v. IsSingle board v in subst P e tested
     by_value (inr (inr k)) = absurd k
 
--- the pin is tested: its net, and the proof that the net has a pin at this place
+-- the net of the pin, the proof that the net has a pin at this place, and the proof that the pin is
+-- tested
 record TestedAt (board : RawBoard) (pin : PinRef) : Type 0 where
   net : Net
   on_board : slice_get board.nets pin.net ≡ Some net

@@ -198,7 +198,7 @@ pub record AreOfPorts (device : RawDevice) : Type 0 where
   pub of_ports : All (λ bit. bit.port < length device.ports) device.bits
   pub each_port : (port : ℕ) → port < length device.ports → ArePort (bits_of_port device port)
 
--- a bit of the test access port is a plain port of mode in or out
+-- the port bit is a plain port of mode in or out, as each port of the test access port must be
 abbrev pub IsTapBit : PortBit → Type 0
 IsTapBit bit = (bit.index ≡ None) × ((bit.mode ≡ Inward) ⊎ (bit.mode ≡ Outward))
 

@@ -61,8 +61,8 @@ singles board =
     ++ flat_map open_faults (tested_pins board)
     ++ flat_map (λ pair. short_faults pair.0.0 pair.1.0) (paired_nets board)
 
--- the fault is a single fault of the board: a covered net that is stuck, a tested pin that is open, or a short of
--- paired nets, the one with the lower number first
+-- The fault is a single fault of the board: a covered net that is stuck, a tested pin that is open, or a short of two paired nets. The
+-- first net of a short has the lower number.
 abbrev pub IsSingle : RawBoard → Single → Type 0
 IsSingle board (StuckNet net value) = IsCovered board net
 IsSingle board (OpenPin pin value) = IsTestedDriver board pin.net pin.place ⊎ IsTestedReceiver board pin.net pin.place

@@ -16,13 +16,13 @@ use Rattle.board_defs.specs.Decided.{is_safe_alone, are_together, are_compatible
 use Rattle.board_defs.specs.Passes.{useful_controls, tested_drivers, is_enabled, with_driver, joins_setting, is_new, shows, passes_of, SomePass, ArePasses}
 use Rattle.board_defs.specs.Faults.{singles, SinglePrecedes, IsSingle}
 
--- on a board that keeps the rules of boards, a setting is safe if and only if each of its controls alone and every two of its controls
--- are safe
+-- on a board that keeps the rules of boards, a setting is safe if and only if each of its controls is safe alone and any two of its
+-- controls are safe together
 abbrev pub SafeByPairs : Type 0
 SafeByPairs = (board : RawBoard) (setting : Enabling) → IsBoard board → IsSafe board setting ↔ IsPairwiseSafe board setting
 
--- Each test of `Decided.antt` passes if and only if its term is true. The tests look only at single controls and at
--- pairs of controls, while most terms mean that there is a safe setting with some property.
+-- Each Boolean test of `Decided.antt` passes if and only if its term is true. The tests look only at single controls and at pairs of
+-- controls, while most terms mean that there is a safe setting with some property.
 pub record DecidesTerms (board : RawBoard) : Type 0 where
   pub safe : (c : Ctl) → Decides (is_safe_alone board c) (IsSafe board (just c))
   pub together : (a b : Ctl) → Decides (are_together board a b) (AreTogether board a b)
@@ -62,7 +62,7 @@ pub record ControlsNew (board : RawBoard) (earlier : List (List Ctl)) (c : Ctl) 
   pub tested : IsTestedDriver board n place
   pub new : SomePass earlier (λ setting. enables board setting pin ≡ true) → ⊥
 
--- the tests that choose the passes agree with the definitions of their terms
+-- the Boolean functions that choose the passes agree with the definitions of their terms
 pub record SaysPasses (board : RawBoard) : Type 0 where
   pub useful_in_order : IsInControlOrder (useful_controls board)
   pub useful : (c : Ctl) → Decides (holds (useful_controls board) c) (IsUseful board c)
@@ -83,7 +83,7 @@ pub record SaysPasses (board : RawBoard) : Type 0 where
       → Decides (are_compatible board (Some d) (Some e))
       (IsSafe board (holds (with_driver (with_driver [] d) e)))
 
--- the tests that choose the passes agree with their terms, and `passes_of` meets the requirements on passes
+-- the Boolean functions that choose the passes agree with the definitions of their terms, and `passes_of` meets the requirements on passes
 pub record PassesAre (board : RawBoard) : Type 0 where
   pub said : SaysPasses board
   pub kept : ArePasses board (passes_of board)

@@ -77,7 +77,7 @@ add_for_driver board useful passes d =
     cond (list_any (λ pass. is_enabled pass d) passes) passes
     (passes ++ driver_pass board useful passes d ∷ [])
 
--- the passes for a list of drivers, each of which some pass then enables
+-- the passes for a list of tested drivers; for each of these drivers, one of the passes enables it
 abbrev pub driver_passes : RawBoard → List Ctl → List Drive → List (List Ctl)
 driver_passes board useful drivers = fold (add_for_driver board useful) [] drivers
 

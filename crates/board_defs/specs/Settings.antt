@@ -11,7 +11,7 @@ use Rattle.board_defs.specs.declared.board.Ctl.{Ctl}
 use Rattle.board_defs.specs.declared.board.Drive.TheVariants.{By}
 use Rattle.board_defs.specs.Pins.{drive, receives, guarded, entry_at, is_pinned}
 
--- a setting: a set of controls, as the test whether a control is in the set
+-- a setting: a set of controls, given as a function that returns whether a control is in the set
 abbrev pub Enabling : Type 0
 Enabling = Ctl → Bool
 
@@ -74,8 +74,8 @@ SwitchesAt board at value =
     × (slice_get net.pins i ≡ Some pin) × (pin.at ≡ Some at) × (guarded board net ≡ false)
     × (net.pull ≡ Some value)
 
--- Each net has at most one enabled driver. No controlled driver of a guarded net is enabled. A driver that its own cell enables is a
--- switching driver, so no one-sided driver is enabled, whether or not it is on a net.
+-- Each net has at most one enabled driver. No controlled driver of a guarded net is enabled. Each enabled driver whose control is its own
+-- cell is a switching driver. So no one-sided driver is enabled, whether or not it is on a net.
 pub record IsSafe (board : RawBoard) (setting : Enabling) : Type 0 where
   pub one : (n : ℕ) (net : Net) (i j : ℕ) (p q : NetPin) → slice_get board.nets n ≡ Some net
       → slice_get net.pins i ≡ Some p → slice_get net.pins j ≡ Some q → i ≢ j
@@ -100,7 +100,7 @@ pub record ObservesBy (board : RawBoard) (setting : Enabling) (net : Net) (place
   pub another : other ≢ place
   pub reads : receives board reader ≡ true
 
--- the setting observes the net by one of its pins
+-- the setting observes the net by one of the net's drivers
 abbrev pub Observes : RawBoard → Enabling → Net → Type 0
 Observes board setting net = (place : ℕ) × ObservesBy board setting net place
 
@@ -108,7 +108,7 @@ Observes board setting net = (place : ℕ) × ObservesBy board setting net place
 abbrev pub ObservesNet : RawBoard → Enabling → ℕ → Type 0
 ObservesNet board setting n = (net : Net) × (slice_get board.nets n ≡ Some net) × Observes board setting net
 
--- each control of the setting alone is a safe setting, and so are every two of its controls
+-- each control of the setting is safe alone, and any two of its controls are safe together
 pub record IsPairwiseSafe (board : RawBoard) (setting : Enabling) : Type 0 where
   pub each : (c : Ctl) → setting c ≡ true → IsSafe board (just c)
   pub each_two : (c d : Ctl) → setting c ≡ true → setting d ≡ true → IsSafe board (both c d)

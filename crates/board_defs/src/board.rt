@@ -1,4 +1,4 @@
-// A board: its chain, its nets, and questions about their pins.
+// A board: its chain and its nets, with functions that return facts about their pins.
 ghost use Rattle.std.specs.Prelude.{◌≡◌, ◌<◌, length};
 ghost use Rattle.board_defs.specs.BoardRules.{IsBoard};
 ghost use Rattle.board_defs.specs.Pins.{instruction_bits, data_bits, drive_at, switches_at, receives_at, guarded_at, IsOnBoard};
@@ -43,7 +43,7 @@ pub struct NetPin {
     pub inert: bool,
 }
 
-/// A net, with its pins in pin order.
+/// A net, with the list of its pins.
 #[derive(Drop)]
 pub struct Net {
     pub name: Name,

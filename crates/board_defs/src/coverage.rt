@@ -13,6 +13,7 @@ pub enum Reason {
     NoDriver,
     /// No safe setting enables a driver on the net.
     Blocked,
-    /// No safe setting enables a driver that has a receiver on another pin of the net.
+    /// No driver of the net that some safe setting enables has a receiver on another pin of the
+    /// net.
     NoReceiver,
 }

@@ -6,8 +6,8 @@ ghost use Rattle.board_defs.specs.declared.board.RawBoard.{RawBoard};
 ghost use Rattle.board_defs.specs.Laws.{SafeByPairs, TermsDecided, PassesKept, SinglesListed};
 ghost use Rattle.board_defs.specs.Passes.{ArePasses};
 
-/// A setting of a board that keeps the rules of boards is safe if and only if each of its controls
-/// alone is a safe setting, and so are every two of its controls.
+/// On a board that keeps the rules of boards, a setting is safe if and only if each of its controls is safe alone and
+/// any two of its controls are safe together.
 pub fn safe_by_pairs()
     ensures { SafeByPairs }
 {}
@@ -19,23 +19,24 @@ pub fn terms_decided()
     ensures { TermsDecided }
 {}
 
-/// The passes of a board meet the requirements on passes (`ArePasses`). Every pass is safe. For
-/// each covered net, each two paired nets, each tested driver and each tested receiver, some pass
-/// observes or tests them. Each pass observes a net by some tested driver for the first time, or
-/// observes two paired nets together for the first time. The tests that choose the passes agree
-/// with the definitions of their terms.
+/// The passes of a board meet the requirements on passes (`ArePasses`). Every pass is safe. For each covered net, some
+/// pass observes it. For any two paired nets, some pass observes both. For each tested driver and each tested receiver,
+/// some pass tests it. Each pass observes a net by some tested driver for the first time, or observes two paired nets
+/// together for the first time. The Boolean functions that choose the passes agree with the definitions of their terms
+/// (`SaysPasses`).
 pub fn passes_kept()
     ensures { PassesKept }
 {}
 
 /// The list of single faults has exactly the stuck faults of covered nets, the open faults of tested pins and the
-/// shorts of paired nets. It has each fault once, in the order of faults.
+/// shorts of paired nets. It has each fault once, in the order `SinglePrecedes`.
 pub fn singles_listed()
     ensures { SinglesListed }
 {}
 
-/// No two passes that meet the requirements on passes (`ArePasses`) are equal. Each of them is the
-/// first to observe some net by some tested driver, or some two paired nets together.
+/// In a list of passes that meets the requirements on passes (`ArePasses`), no two passes are equal. The reason is that
+/// each pass is the first to observe some net by some tested driver, or the first to observe some two paired nets
+/// together.
 pub fn passes_differ()
     ensures { (board : RawBoard) (passes : List (List Ctl)) (x y : ℕ) (pass : List Ctl)
         → ArePasses board passes → x < y → slice_get passes x ≡ Some pass

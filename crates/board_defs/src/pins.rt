@@ -1,4 +1,4 @@
-// Questions about the pins of a board or a device, asked of the plain records.
+// Functions that return facts about the pins of a board or a device. They take the plain records.
 ghost use Rattle.std.specs.Prelude.{◌≡◌, ◌≤◌, ◌^◌, ◌<◌, ◌&&◌, option_copied, option_and_then, length, slice_get};
 ghost use Rattle.std.specs.List.{list_any};
 ghost use Rattle.board_defs.specs.DeviceRules.{is_driving, is_reading, is_receiving, is_writing, is_loading, is_controlling, is_inner, may_receive, may_drive, is_linkage, bit_of, is_on, drives_bit, reads_bit, driving_entry};

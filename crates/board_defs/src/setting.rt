@@ -59,7 +59,7 @@ impl Setting {
     }
 
     /// Adds the control at its place in control order. Changes nothing if the setting has the control already, or if
-    /// memory is refused.
+    /// memory runs out.
     pub fn add(&mut self, c: Ctl) -> Result<(), AllocError>
         ensures added { OnOk result (self.new ≡ inserted c self.old) }
         ensures same { OnErr result (self.new ≡ self.old) }

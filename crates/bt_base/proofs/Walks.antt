@@ -1,4 +1,5 @@
--- A proof step that all proofs about `src/asked.rt` share. It takes the program logic (`Logic`) as an argument.
+-- A proof step that makes the value of a struct without fields. Both proofs about `src/asked.rt` use it. It takes the
+-- program logic (`Logic`) as an argument.
 use Rattle.std.proofs.Common.{List, [], ◌∷◌, refl}
 use seplogic.Ra.Ura.{Ura}
 use mir.Val.{Val, vstruct, vnil}

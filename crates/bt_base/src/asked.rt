@@ -1,11 +1,11 @@
-//! The names of the texts that were fetched from a store. Only proofs see them: the list takes no
+//! The names with which texts were fetched from a store. Only proofs see this list. It takes no
 //! memory, and its methods do nothing at run time.
 ghost use Rattle.std.specs.Prelude.{◌≡◌, ℕ, List, [], ◌∷◌, ◌++◌};
 ghost use Rattle.std.specs.Borrow.{ftrue};
 
 use std::marker::Model;
 
-/// The names of the texts that were fetched so far, in the order of the fetches.
+/// The names of all fetches so far, in the order of the fetches. Fetches that failed count too.
 #[derive(Drop)]
 pub(crate) struct Asked {
     pub ghost names: { List (List ℕ) },

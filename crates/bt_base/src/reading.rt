@@ -1,4 +1,4 @@
-//! Reads all bytes that a reader has left.
+//! Reads the remaining bytes of a reader, up to a limit.
 ghost use Rattle.std.specs.Prelude.{◌≡◌, ℕ, ◌+◌, ◌<◌, ◌≤◌, ◌||◌, [], length, take, OnOk, IfOk, IsErrOf, IfSome, is_err, false, Option, List};
 ghost use Rattle.std.specs.Io.{ReadsAtMost};
 ghost use Rattle.std.specs.Io.KnownBytes.{ReadConsumes};
@@ -45,9 +45,9 @@ impl<R: Read> Read for Watched<R> {
     }
 }
 
-/// Reads all bytes that the reader has left into `into`, which must be empty. If there are more
-/// than `cap` bytes, reads `cap + 1` bytes and returns `TooLong`. Returns `Failed` if and only if a
-/// read fails.
+/// Reads the remaining bytes of the reader into `into`, which must be empty. If there are more than
+/// `cap` bytes, reads `cap + 1` bytes and returns `TooLong`. Returns `Failed` if and only if a read
+/// fails.
 pub(crate) fn read_all<R: Read>(
     from: &mut Watched<R>,
     into: &mut Vec<u8>,
@@ -72,8 +72,8 @@ pub(crate) fn read_all<R: Read>(
     Err(FetchFault::TooLong)
 }
 
-// Makes one read of at most `most` bytes, and appends them. Returns how many bytes it read, which
-// is 0 only at the reader's end. `most` must not be 0.
+// Makes one read of at most `most` bytes, and appends the bytes that it read. Returns their number,
+// which is 0 only at the reader's end. `most` must not be 0.
 fn read_some<R: Read>(
     from: &mut Watched<R>,
     into: &mut Vec<u8>,

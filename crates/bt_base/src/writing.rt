@@ -1,4 +1,4 @@
-//! Writes a piece to a writer, and flushes the writer.
+//! Writes a piece of bytes to a writer, and flushes the writer.
 ghost use Rattle.std.specs.Prelude.{◌≡◌, OnOk, true, false};
 ghost use Rattle.std.specs.Io.KnownBytes.{Appends, Keeps};
 

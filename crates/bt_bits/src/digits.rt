@@ -56,7 +56,8 @@ fn value(a: bool, b: bool, c: bool, d: bool) -> u8
     low + 4 * high
 }
 
-// Returns the digit of one to three bits. These are the bits after the last whole group of four.
+// Returns the digit of one to three bits. They are the bits of the last digit of a row whose length
+// is not a multiple of 4.
 fn top_value(bits: &[bool]) -> u8
     requires some { 0 < length bits.now }
     requires few { length bits.now < 4 }
@@ -206,9 +207,10 @@ fn is_cut(digits: &[u8], len: usize) -> bool
     count == 0 || is_digit_cut(digits[len / 4], count)
 }
 
-// Reads the text as a field of `len` bits, and fills `digits` with the digits of the field. Returns
-// whether the text is such a field. The text and `digits` must have as many digits as `len` bits
-// need.
+// Reads the text as a hexadecimal field of `len` bits, and fills `digits` with the values of its
+// digits, the rightmost digit first. Returns whether the text is such a field: each byte is a
+// digit, and the bits from `len` on are 0. The text and `digits` must have as many digits as `len`
+// bits need.
 pub fn fill_field(text: &[u8], len: usize, digits: &mut [u8]) -> bool
     requires text { length text.now ≡ digit_count len }
     requires places { length digits.old ≡ digit_count len }
@@ -219,9 +221,9 @@ pub fn fill_field(text: &[u8], len: usize, digits: &mut [u8]) -> bool
     fill_digits(text, digits) && is_cut(digits, len)
 }
 
-// Like `fill_field`, but replaces the content of a vector. The vector must have room for the
-// digits, and `len` must be less than `2 ^ 63`. If the text is not a field of `len` bits, the new
-// content is the digits of `len` zero bits.
+// Like `fill_field`, but replaces the content of a vector. The text must have as many digits as
+// `len` bits need, the vector must have room for them, and `len` must be less than `2 ^ 63`. If the
+// text is not a field of `len` bits, the new content is the digits of `len` zero bits.
 pub fn read_field(text: &[u8], len: usize, digits: &mut Vec<u8>) -> bool
     requires few { len < 2 ^ 63 }
     requires digits { length text.now ≡ digit_count len }

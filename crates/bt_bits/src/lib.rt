@@ -1,4 +1,5 @@
-//! Rows of bits and lines of bytes.
+//! Rows, which are the bits of registers; stacks of 16 rows; and lines, which are buffers of bytes
+//! for a sink.
 #![tactic(auto)]
 
 mod digits;

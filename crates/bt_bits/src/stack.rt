@@ -106,8 +106,8 @@ fn with_column(word: u64, k: u32, column: Column) -> u64
     (word & !mask) | ((column.word << k) & mask)
 }
 
-/// A stack of 16 rows of equal length, numbered from 0. The rows never have more bits than the room
-/// of the stack. `with_room` allocates eight bytes for every four bits of the room.
+/// A stack of 16 rows of equal length, numbered from 0. The room of a stack is the largest number of bits that each row
+/// can have, and never changes. `with_room` allocates eight bytes for every four bits of the room.
 #[derive(Drop)]
 pub struct RowStack {
     // The word at a place has the digits of all rows at that place. Row 0 has the lowest digit.

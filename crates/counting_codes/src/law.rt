@@ -1,10 +1,12 @@
-//! A law: codes of the right width differ. The law is the contract of a function that does nothing.
-//! A caller knows the law after calling the function.
+//! A law: each code of the right width has a 0 bit and a 1 bit, and different codes differ in some
+//! bit of this width. The law is the contract of a function that does nothing. A caller knows the
+//! law after calling the function.
 ghost use Rattle.std.specs.Prelude.{◌≡◌, ◌≢◌, ℕ, ◌+◌, ◌^◌, ◌<◌, ◌≤◌};
 ghost use Rattle.std.specs.Int.{bit_at};
 
 /// If `2 ^ width` is at least `n + 2`, each code from 1 to `n` has a 0 bit and a 1 bit below bit
-/// `width`, and every two of these codes differ in some bit below bit `width`.
+/// `width`, and any two different codes from 1 to `n` differ in some bit below bit
+/// `width`.
 pub fn codes_tell()
     ensures zero { (n width : ℕ) → n + 2 ≤ 2 ^ width → (c : ℕ) → 1 ≤ c → c ≤ n
         → (j : ℕ) × (j < width) × (bit_at c j ≡ 0) }

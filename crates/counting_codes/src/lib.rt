@@ -1,5 +1,5 @@
-//! Counting codes. The code of a net is the net's number, counted from 1. Codes have the smallest
-//! number of bits for which no code has only zeros or only ones.
+//! Counting codes. The codes of `n` nets are the numbers from 1 to `n`. They have just enough bits
+//! that no code has only zeros or only ones.
 #![tactic(auto)]
 
 ghost use Rattle.std.specs.Prelude.{◌≡◌, ◌==◌, ℕ, ◌+◌, ◌^◌, ◌<◌, ◌≤◌};
@@ -7,8 +7,8 @@ ghost use Rattle.std.specs.Int.{bit_at};
 
 pub mod law;
 
-/// Returns the number of bits of the codes from 1 to `n`, which must be at most 16,382. This is the
-/// smallest number of bits for which no code has only zeros or only ones.
+/// Returns the number of bits of the codes from 1 to `n`: the smallest `w` with `n + 2 <= 2^w`. So
+/// none of these codes has only zeros or only ones. `n` must be at most 16,382.
 pub fn width(n: u32) -> u32
     requires { n ≤ 16382 }
     ensures enough { n + 2 ≤ 2 ^ result }

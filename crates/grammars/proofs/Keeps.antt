@@ -99,6 +99,6 @@ keeps_turns {T} {S} {A} {weight} {turn} {Before} {Fact} h s n before = record {
 pub keeps_nothing : {T A : Type 0} {weight : T → ℕ} {g : Grammar T A} {given : ℕ} → Keeps weight g given (λ n a. Unit {0})
 keeps_nothing {T} {A} {weight} {g} {given} = record { kept = λ tokens a whole. tt }
 
--- the number is at least `given`, since no token has a negative weight
+-- `given` plus the weight of the tokens is at least `given`, since no token has a negative weight
 pub keeps_more : {T A : Type 0} {weight : T → ℕ} {g : Grammar T A} {given : ℕ} → Keeps weight g given (λ n a. given ≤ n)
 keeps_more {T} {A} {weight} {g} {given} = record { kept = λ tokens a whole. omega arith }

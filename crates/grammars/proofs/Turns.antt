@@ -1,5 +1,5 @@
--- Lemmas about reading any number of turns, each of which takes at least one token. A limit on the number of turns does not change the
--- outcome if it is greater than the number of tokens.
+-- Lemmas about reading the turns of a repetition, each of which takes at least one token. A limit on the number of turns does not change
+-- the outcome if it is greater than the number of tokens.
 use Rattle.std.proofs.Common.{◌≡◌, ℕ, zero, suc, ◌+◌, ◌<◌, ◌≤◌, List, [], ◌∷◌, ◌++◌, length, Option, Some, None, refl, sym, ◌∙◌, ap, subst, arith, length-append}
 use Rattle.std.proofs.lemmas.List.{append_cancel_right}
 use Rattle.grammars.specs.Turn.{Turn, again, last}

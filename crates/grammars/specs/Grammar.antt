@@ -14,7 +14,8 @@ pub data Grammar (T : Type 0) : Type 0 → Type 1 where
   done : {A : Type 0} → A → Grammar T A
   -- a part, followed by a part that depends on the value of the first
   in_turn : {A B : Type 0} → Grammar T A → (A → Grammar T B) → Grammar T B
-  -- any number of turns; each turn begins with the state that the turn before it left
+  -- a repetition of one or more turns; the first turn begins with the given state, and each other
+  -- turn with the state that the turn before it left
   turns : {S A : Type 0} → (S → Grammar T (Turn S A)) → S → Grammar T A
 
 -- the production of the grammar

@@ -1,4 +1,5 @@
--- Lists of entries, and the number of the first wrong entry of tokens that are not a list.
+-- Lists: each entry is followed by a mark that says whether another entry follows. If tokens are not such a list,
+-- `GoesWrongAt` says which entry is the first wrong one.
 use Rattle.std.specs.Prelude.{◌≡◌, ℕ, zero, suc, ◌+◌, Bool, true, List, [], ◌∷◌, ◌++◌}
 use Rattle.grammars.specs.Turn.{Turn, turn_of}
 use Rattle.grammars.specs.Production.{Follows}

@@ -45,7 +45,7 @@ in_turn p q = record {
   Cut = λ tokens. p.Cut tokens ⊎ Follows p (λ a back. (q a).Cut back) tokens;
 }
 
--- What follows a turn: the production `next` if another turn follows, or no token after the last turn.
+-- What comes after a turn: `next` if another turn follows, or no token, with the value of the turn, if this was the last turn.
 abbrev pub follow : {T S A : Type 0} → (S → Production T A) → Turn S A → Production T A
 follow next (again s) = next s
 follow next (last a) = done a
@@ -54,7 +54,8 @@ abbrev pub turns_up_to : {T S A : Type 0} → ℕ → (S → Production T (Turn 
 turns_up_to zero turn before = none
 turns_up_to (suc n) turn before = in_turn (turn before) (follow (turns_up_to n turn))
 
--- any number of turns; each turn begins with the state that the turn before it left
+-- A repetition of one or more turns. The first turn begins with the state `before`, and each other turn with the state that the turn before
+-- it left.
 abbrev pub turns : {T S A : Type 0} → (S → Production T (Turn S A)) → S → Production T A
 turns turn before = record {
   Whole = λ tokens a. (n : ℕ) × (turns_up_to n turn before).Whole tokens a;

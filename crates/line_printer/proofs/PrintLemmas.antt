@@ -100,7 +100,7 @@ prints_err {T} {U} {E} {F} {old} {new} {p} {m} {l} {a} {r} {e} {s} b first err i
       cause = cut.cause;
     }
 
--- If a call prints a text and returns Ok, a caller may return Ok with any other value.
+-- If a call prints a text and returns Ok, a caller that returns Ok with another value has also printed the text.
 pub prints_done : {T U E F : Type 0} {old new : Shown} {p l a : List ℕ} {r : Result T E} {x : T}
     {y : U} → Prints old new p l a r → r ≡ Ok x → Prints {T = U} {E = F} old new p l a (Ok y)
 prints_done {T} {U} {E} {F} {old} {new} {p} {l} {a} {r} {x} {y} prints ok = record {
@@ -110,7 +110,7 @@ prints_done {T} {U} {E} {F} {old} {new} {p} {l} {a} {r} {x} {y} prints ok = reco
   cause = tt;
 }
 
--- If a call puts the line's old bytes `p` and then the text `a` to the sink, and leaves the line empty, the call prints `a`.
+-- If the buffer had the bytes `p`, and a call puts `p ++ a` to the sink and leaves the buffer empty, the call prints `a`.
 pub prints_put : {T E : Type 0} {old new : Shown} {p l a b : List ℕ} {r : Result T E}
     → Puts old new b r → b ≡ p ++ a → l ≡ [] → Prints old new p l a r
 prints_put {T} {E} {old} {new} {p} {l} {a} {b} {r} put same empty = by r put
@@ -129,7 +129,7 @@ prints_put {T} {E} {old} {new} {p} {l} {a} {b} {r} put same empty = by r put
       cause = put.cause;
     }
 
--- If the line is empty before and after a call that prints a nonempty text, the call writes the text to the sink.
+-- If the buffer is empty before and after a call that prints a nonempty text, the call writes the text to the sink.
 pub puts_of : {T E : Type 0} {old new : Shown} {c : ℕ} {a : List ℕ} {r : Result T E}
     → Prints old new [] [] (c ∷ a) r → Puts old new (c ∷ a) r
 puts_of {T} {E} {old} {new} {c} {a} {r} prints = by r prints

@@ -1,5 +1,5 @@
--- Lemmas about a loop that prints the texts of items in turn. `Completes` says that printing the texts that are left
--- completes the whole text.
+-- Lemmas about a loop that prints the texts of items in turn. `Completes start now rest whole` says: a call that prints
+-- `rest` from the sink's state `now` completes the printing of `whole`, which began in the state `start`.
 use Rattle.std.proofs.Common.{◌≡◌, ℕ, ◌+◌, ◌<◌, ◌≤◌, List, [], ◌++◌, length, get_or, drop, refl, sym, ap, ◌∙◌, Result, Ok, Err, IsErr}
 use Rattle.std.specs.List.{flat_map}
 use Rattle.std.proofs.lemmas.List.{drop_more, drop_all}

@@ -1,4 +1,5 @@
-//! Writes text line by line through a `Line`. A line of the text may be longer than a `Line`.
+//! Prints text to a sink through a `Line`, which is a buffer of `MAX_LINE` bytes. A line of the
+//! text may be longer than the buffer.
 #![tactic(auto)]
 
 mod printing;

@@ -1,4 +1,4 @@
-// Prints lines of any length through a `Line`.
+// Prints text of any length to a sink through a `Line`, which is a buffer of `MAX_LINE` bytes.
 ghost use Rattle.std.specs.Prelude.{◌≡◌, ◌<◌, ℕ, List, [], ◌∷◌, ◌++◌, length, map, OnOk};
 ghost use Rattle.bt_base.specs.Puts.{Puts};
 ghost use Rattle.line_printer.specs.Prints.{Prints, line_of, whole};
@@ -6,7 +6,7 @@ ghost use Rattle.line_printer.specs.Prints.{Prints, line_of, whole};
 use bt_base::{PutFault, Sink};
 use bt_bits::{Line, MAX_LINE};
 
-// If the line is full, writes it to the sink and empties it.
+// If the buffer `line` is full, writes it to the sink and empties it.
 fn make_room<K: Sink>(line: &mut Line, out: &mut K) -> Result<(), PutFault>
     ensures text { Prints (K.shown out.old) (K.shown out.new) line.old line.new [] result }
     ensures room { OnOk result (length line.new < 1024) }
@@ -19,7 +19,7 @@ fn make_room<K: Sink>(line: &mut Line, out: &mut K) -> Result<(), PutFault>
     Ok(())
 }
 
-// Like `print`, but for a text that may not fit into the line.
+// Like `print`, but for a text that may not fit into the buffer `line`.
 fn print_parts<K: Sink>(text: &[u8], line: &mut Line, out: &mut K) -> Result<(), PutFault>
     ensures { Prints (K.shown out.old) (K.shown out.new) line.old line.new text.now result }
 {
@@ -33,9 +33,9 @@ fn print_parts<K: Sink>(text: &[u8], line: &mut Line, out: &mut K) -> Result<(),
     Ok(())
 }
 
-/// Appends a text to the line. Whenever the line is full and more bytes follow, writes the line to
-/// the sink and empties it. The call fails only if the sink fails. The sink has then taken a prefix
-/// of the line's old bytes followed by the text.
+/// Appends a text to the buffer `line`. Whenever the buffer is full and more bytes follow, writes
+/// it to the sink and empties it. The call fails only if the sink fails. The sink has then taken
+/// some prefix of these bytes: the old content of the buffer, and after it the text.
 #[inline]
 pub fn print<K: Sink>(text: &[u8], line: &mut Line, out: &mut K) -> Result<(), PutFault>
     ensures { Prints (K.shown out.old) (K.shown out.new) line.old line.new text.now result }
@@ -48,7 +48,7 @@ pub fn print<K: Sink>(text: &[u8], line: &mut Line, out: &mut K) -> Result<(), P
     print_parts(text, line, out)
 }
 
-/// Appends the pieces to the line in order, each like `print` does.
+/// Prints the pieces in order, each as `print` does.
 pub fn print_all<K: Sink>(pieces: &[&[u8]], line: &mut Line, out: &mut K) -> Result<(), PutFault>
     ensures { Prints (K.shown out.old) (K.shown out.new) line.old line.new
         (whole (map (λ p. p.now) pieces.now)) result }
@@ -59,8 +59,8 @@ pub fn print_all<K: Sink>(pieces: &[&[u8]], line: &mut Line, out: &mut K) -> Res
     Ok(())
 }
 
-/// Empties the line and then appends the pieces, like `print_all` does. The old content of the line
-/// is lost.
+/// Empties the buffer `line`, and then prints the pieces as `print_all` does. The old content of
+/// the buffer is lost.
 pub fn begin_line<K: Sink>(pieces: &[&[u8]], line: &mut Line, out: &mut K) -> Result<(), PutFault>
     ensures { Prints (K.shown out.old) (K.shown out.new) [] line.new
         (whole (map (λ p. p.now) pieces.now)) result }
@@ -69,8 +69,8 @@ pub fn begin_line<K: Sink>(pieces: &[&[u8]], line: &mut Line, out: &mut K) -> Re
     print_all(pieces, line, out)
 }
 
-/// Appends a line feed to the line and writes the line to the sink. After the call, the content of
-/// the line is unspecified.
+/// Appends a line feed to the buffer `line` and writes the buffer to the sink. If the buffer is
+/// full, first writes and empties it. After the call, the content of the buffer is unspecified.
 pub fn end_line<K: Sink>(line: &mut Line, out: &mut K) -> Result<(), PutFault>
     ensures { Prints (K.shown out.old) (K.shown out.new) line.old [] (10 ∷ []) result }
 {
@@ -79,8 +79,8 @@ pub fn end_line<K: Sink>(line: &mut Line, out: &mut K) -> Result<(), PutFault>
     out.put(line.bytes())
 }
 
-/// Writes a line of text that consists of these pieces and a line feed. If it has at most
-/// `MAX_LINE` bytes, it is written in one put. The old content of `line` is lost.
+/// Writes a line of text that consists of these pieces and a line feed. If this text has at most
+/// `MAX_LINE` bytes, it is written in one put. The old content of the buffer `line` is lost.
 pub fn put_line<K: Sink>(pieces: &[&[u8]], line: &mut Line, out: &mut K) -> Result<(), PutFault>
     ensures { Prints (K.shown out.old) (K.shown out.new) [] []
         (line_of (map (λ p. p.now) pieces.now)) result }

@@ -18,7 +18,7 @@ cell num role bit = record { num = num; role = role; bit = bit; safe = Any; ctl 
 abbrev port_bit : Mode → Bool → PortBit
 port_bit mode tap = record { port = 0; index = None; mode = mode; pin = None; tap = tap; compliance = false }
 
--- the rows of a part with two port bits; its cell 4 belongs to neither of them
+-- the table's row of a part with two port bits; the entries of cells 1 and 4 belong to neither of them
 abbrev row : List (List Cell)
 row = entries_noted (replicate 2 [])
     (cell 0 Input (Some 1) ∷ cell 1 Control None ∷ cell 2 Input (Some 0) ∷ cell 3 Output3 (Some 1) ∷ cell 4 Output2 (Some 7) ∷ [])

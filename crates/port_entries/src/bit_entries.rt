@@ -10,7 +10,8 @@ use std::alloc::{AllocError, Global};
 /// The entries of a port bit, in the order of the device's list of entries.
 pub type BitEntries = Few<Cell>;
 
-/// Returns a row with `count` port bits that have no entries.
+/// Returns a row of the table for a part with `count` port bits. The row has an empty list of entries for each port
+/// bit.
 pub(crate) fn blank_row(alloc: Global, count: usize) -> Result<Vec<BitEntries>, AllocError>
     ensures { IfOk result (λ row. row.items ≡ replicate count []) }
 {
@@ -21,7 +22,7 @@ pub(crate) fn blank_row(alloc: Global, count: usize) -> Result<Vec<BitEntries>, 
     Ok(row)
 }
 
-/// Adds the entry to the port bit at `place`. Does nothing if the row has no such port bit.
+/// Adds the entry to the entries of port bit number `place`. Does nothing if the row has no such port bit.
 fn note(alloc: Global, row: &mut [BitEntries], place: usize, cell: Cell) -> Result<(), AllocError>
     ensures { OnOk result (row.new ≡ noted row.old (Some place) cell) }
 {
@@ -31,7 +32,8 @@ fn note(alloc: Global, row: &mut [BitEntries], place: usize, cell: Cell) -> Resu
     Ok(())
 }
 
-/// Adds the entry to the port bit at `place`. Does nothing if there is no place, or if the row has no such port bit.
+/// Adds the entry to the entries of port bit number `place`. Does nothing if `place` is None, or if the row has no such
+/// port bit.
 pub(crate) fn note_cell(
     alloc: Global,
     row: &mut [BitEntries],

@@ -115,8 +115,8 @@ fn guards_bit(bit: &PortBit, entries: &[Cell]) -> bool
     is_test_bit(bit) || is_dark_bit(bit, entries)
 }
 
-// Returns whether a pin guards its net. Looks up the port bit once for both reasons, since `any_guards` calls this
-// function for each pin of each net.
+// Returns whether a pin guards its net: it is a test pin or a dark pin. Looks up the port bit once for both conditions, since `any_guards`
+// calls this function for each pin of each net.
 fn guards(rows: &[Items<BitEntries>], board: &RawBoard, pin: &NetPin) -> bool
     ensures { result ≡ guards_in rows.now board.now pin.now }
 {

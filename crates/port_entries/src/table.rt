@@ -1,4 +1,4 @@
-// The table of entries. It has a row for each part, and a row has the entries of each port bit.
+// The table of entries. It has a row for each part. A row has a list of entries for each port bit of the part.
 ghost use Rattle.std.specs.Prelude.{◌≡◌, [], length, slice_get, replicate, unwrap_or, IfOk, OnOk};
 ghost use Rattle.board_defs.specs.BoardRules.{IsBoard};
 ghost use Rattle.board_defs.specs.Pins.{described};

@@ -21,8 +21,8 @@ abbrev pub begins_no_comment : Word → Bool
 begins_no_comment [] = true
 begins_no_comment (b ∷ bs) = not (b == 35)
 
--- the words of a line: the nonempty pieces between blanks, up to the first piece that begins with
--- `#`
+-- the words of a line: the nonempty pieces between blanks; a piece that begins with `#`, and all pieces after it, are
+-- left out
 unfoldable pub words_of : List ℕ → List Word
 words_of line = take_while begins_no_comment (filter is_filled (slice_split is_line_blank line))
 

@@ -1,7 +1,7 @@
 //! The lines of a text, and the words of a line.
 //!
-//! Byte 10 separates lines. Carriage returns, tabs and spaces separate words. A word that begins
-//! with `#` begins a comment, which ends with its line.
+//! Byte 10 separates lines. Carriage returns, tabs and spaces are blanks, which separate words. A
+//! word that begins with `#` begins a comment, which ends at the end of the line.
 #![tactic(auto)]
 
 ghost use Rattle.std.specs.Prelude.{◌≡◌, ◌==◌, [], ◌∷◌, true, false, MatchOption, map, IfOk, IfSome, IfNone, option_map, option_copied, length, drop, ◌+◌, ◌≤◌};
@@ -37,7 +37,8 @@ pub fn begins_no_comment(word: &[u8]) -> bool
     }
 }
 
-/// Returns the words of a line up to a comment. Fails only if memory runs out.
+/// Returns the words of a line. If the line has a comment, returns only the words before it. Fails
+/// only if memory runs out.
 #[tactic(auto, unfolding(crate::specs::Words::words_of))]
 pub fn words(alloc: Global, line: &[u8]) -> Result<Vec<&[u8]>, AllocError>
     ensures { IfOk result (λ words. map (λ w. w.now) words.items ≡ words_of line.now) }
@@ -87,7 +88,8 @@ pub fn cut_at(text: &[u8], byte: u8) -> Option<(&[u8], &[u8])>
     }
 }
 
-/// Returns the first line, and the text after it if another line follows.
+/// Returns the first line, without the byte 10 that ends it, and the text after this byte. The
+/// second value is None if the text has no byte 10.
 pub fn first_line(text: &[u8]) -> (&[u8], Option<&[u8]>)
     ensures lines { slice_split is_newline text.now
         ≡ result.0.now ∷ lines_of (option_copied result.1) }

@@ -6,8 +6,7 @@ use Rattle.bt_base.specs.declared.store.FetchFault.{FetchFault}
 use Rattle.bt_base.specs.declared.store.FetchFault.TheVariants.{Failed, TooLong}
 use Rattle.bt_base.specs.Faults.{is_failed}
 
--- The read appended the next `n` bytes that the reader had left to the list. The number `n` is 0 only at the reader's
--- end.
+-- The read appended `n` bytes to the list: the next bytes of the reader. The number `n` is 0 only at the reader's end.
 abbrev pub GivesNext : Option (List ℕ) → Option (List ℕ) → List ℕ → List ℕ → ℕ → Type 0
 GivesNext left rest before now n =
     (bytes : List ℕ) × (now ≡ before ++ bytes) × (length bytes ≡ n) × Consumes left rest bytes × (n ≡ 0 → IsAtEnd rest)
@@ -17,9 +16,9 @@ abbrev pub has_failed : {F E : Type 0} → Result (Watched F) E → Bool
 has_failed (Ok file) = file.failed
 has_failed (Err e) = true
 
--- The bytes `given` that a fetch read from an opened file. On Ok, `given` has all bytes that the file had left. On
--- TooLong, it has the first `cap + 1` of them. The result is Failed if and only if the file could not be opened or a
--- read of it failed.
+-- The bytes `given` that a fetch read from a file. `opened` is the file as the fetch opened it, and `left` is the same
+-- file after the reads. On Ok, `given` has all bytes that the opened file had. On TooLong, it has the first `cap + 1`
+-- of them. The result is Failed if and only if the file could not be opened or a read of it failed.
 pub record IsHandedOn {F E : Type 0} (remaining : F → Option (List ℕ)) (cap : ℕ)
     (opened left : Result (Watched F) E) (given : List ℕ) (result : Result ⊤ FetchFault) : Type 0
   where

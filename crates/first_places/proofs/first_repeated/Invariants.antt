@@ -4,7 +4,8 @@ use Rattle.indexmap.specs.IndexSet.{contains}
 use Rattle.first_places.specs.Places.{first_repeated, repeated_from}
 use Rattle.first_places.proofs.first_repeated.Given as goal
 
--- the set has the keys of the items visited so far, and none of these keys is repeated
+-- the set has exactly the keys of the items visited so far, and no two of these items have the same
+-- key
 abbrev pub invariant-loop-item : goal.invariant-loop-item
 invariant-loop-item g l = record {
   seen : (q : g.row.K.Denot) → contains g.K.PartialEq.eq l.seen q ≡ list_any (λ s. g.K.PartialEq.eq s.0 q) (take l.item-index l.items);

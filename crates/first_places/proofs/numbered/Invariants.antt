@@ -4,9 +4,9 @@ use Rattle.indexmap.specs.IndexSet.{contains}
 use Rattle.first_places.specs.Places.{place_or_zero, once, once_from}
 use Rattle.first_places.proofs.numbered.Given as goal
 
--- The keys visited so far are in the set and have their numbers. The kept keys are the keys of the
--- set, in its order, and no more than the keys visited so far. Followed by the new keys among the keys
--- that are left, they are the result.
+-- The set has exactly the keys visited so far, and `numbers` has their numbers. `kept` has the keys of the set, in its
+-- order, and at most as many as the loop has visited. The different keys of the list are the keys in `kept`, followed
+-- by the keys that the loop will visit and that equal no earlier key.
 abbrev pub invariant-loop-key : goal.invariant-loop-key
 invariant-loop-key g l = record {
   same : l.seen.keys ≡ l.kept.items;

@@ -4,8 +4,8 @@ use Rattle.indexmap.specs.IndexSet.{contains}
 use Rattle.first_places.specs.Places.{once, once_from}
 use Rattle.first_places.proofs.once_by.Given as goal
 
--- The keys of the items visited so far are in the set. The kept items, followed by those of the
--- other items that have new keys, are the result.
+-- The set has exactly the keys of the items visited so far. The result is the items in `kept`,
+-- followed by the items that the loop will visit and whose keys no earlier item has.
 abbrev pub invariant-loop-item : goal.invariant-loop-item
 invariant-loop-item g l = record {
   seen : (q : g.row.K.Denot) → contains g.K.PartialEq.eq l.seen q ≡ list_any (λ s. g.K.PartialEq.eq s.0 q) (take l.item-index l.items);

@@ -1,4 +1,4 @@
--- Readers that read tokens from left to right.
+-- Readers, which go through tokens from left to right and find a value at the front, or refuse the tokens.
 use Rattle.std.specs.Prelude.{ℕ, zero, suc, List, [], ◌∷◌, length, Option, Some, None}
 use Rattle.grammars.specs.Turn.{Turn, again, last}
 
@@ -40,6 +40,7 @@ abbrev pub turns_up_to : {T S A : Type 0} → ℕ → (S → Reader T (Turn S A)
 turns_up_to zero turn before = none
 turns_up_to (suc n) turn before = in_turn (turn before) (follow (turns_up_to n turn))
 
--- Reads any number of turns, up to one more than there are tokens. This limit makes no difference if each turn takes at least one token.
+-- Reads turns up to the last one, but at most one turn more than there are tokens. This limit makes no difference if each turn takes at
+-- least one token.
 unfoldable pub turns : {T S A : Type 0} → (S → Reader T (Turn S A)) → S → Reader T A
 turns turn before tokens = turns_up_to (suc (length tokens)) turn before tokens

@@ -2,7 +2,8 @@ use Rattle.std.proofs.Common.{◌≡◌, ◌-◌, ◌≤◌, vec_len}
 use Rattle.std.specs.Io.KnownBytes.{Consumes}
 use Rattle.bt_base.proofs.reading.read_all.Given as goal
 
--- The vector has the bytes that the loop has taken from the reader, and no read has failed.
+-- The vector has the bytes that the loop has taken from the reader, and no read of the loop has
+-- failed.
 abbrev pub invariant-loop-into : goal.invariant-loop-into
 invariant-loop-into g l =
     (vec_len l.into ≤ l.limit)
