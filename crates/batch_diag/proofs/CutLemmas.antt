@@ -186,7 +186,7 @@ rows_append n (line ∷ lines) later =
     (rows_at (n + 1) (lines ++ later))
     (rows_append (n + 1) lines later ∙ ap (λ m. rows_at (n + 1) lines ++ rows_at m later) next)
 
--- If a line is not a title, putting it in front of `rows` and `later` puts it among the lines before the first title.
+-- If a line that is not a title is put in front of the lines, it joins the lines before the first title.
 up_to_front : (n : ℕ) (words : List Word) (rows later : List NumberedLine) → is_title words ≡ false
     → up_to_title (rows ++ later) ≡ rows ++ up_to_title later
     → up_to_title (with_line n words rows ++ later) ≡ with_line n words rows ++ up_to_title later

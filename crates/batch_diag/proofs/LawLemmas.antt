@@ -69,7 +69,7 @@ rows_up_to (line ∷ own) later rows none =
     ∙ ap (λ (ls : List NumberedLine). line ∷ ls)
     (rows_up_to own later (All-tail IsRow line own rows) none)
 
--- If the lines are the lines of some blocks, `blocks_of_lines` returns these blocks.
+-- `blocks_of_lines` returns a list of blocks if and only if the lines are the lines of these blocks.
 module _ (rows len : ℕ) where
   block_title : (title : NumberedLine) (own : List NumberedLine) (block : Block)
       → IsBlockOf rows len title own block → begins_block title ≡ true
@@ -112,7 +112,7 @@ module _ (rows len : ℕ) where
       ∙ ap (λ (log : LogAnswer). block_then block.id n log (logs_from rows len (n + 1) (blocks_of later))) is.log
       ∙ ap (onto block) (said (n + 1) later blocks more)
 
-  -- The lines begin with lines that are not titles. The other lines are the lines of `blocks`.
+  -- The lines consist of lines that are not titles, followed by the lines of `blocks`.
   record Split (lines : List NumberedLine) (blocks : List Block) : Type 0 where
     own : List NumberedLine
     later : List NumberedLine
@@ -279,7 +279,7 @@ module _ (rows len : ℕ) where
 pub blocks_are_the_lines : BlocksAreTheLines
 blocks_are_the_lines text rows len blocks = (to_blocks rows len (row_lines text) blocks, from_blocks rows len (row_lines text) blocks)
 
--- the lines consist of the lines before the first title, none of which is a title, and the lines from the first title on
+-- the lines consist of the lines before the first title, followed by `behind`, the lines from the first title on
 record Front (lines : List NumberedLine) : Type 0 where
   behind : List NumberedLine
   all : lines ≡ up_to_title lines ++ behind
@@ -573,7 +573,7 @@ module _ (rows len : ℕ) where
   first_fault lines fault (Some other) title start title_is is =
       let same : other ≡ fault = cc in start_first lines fault (start ∙ ap Some same)
 
-  -- The lemmas from here on prove the converse: `blocks_of_lines` returns the first fault.
+  -- The lemmas from here on prove the converse: if a fault is the first fault, `blocks_of_lines` returns it.
   starts : (lines : List NumberedLine) → up_to_title lines ≡ [] → start_fault lines ≡ None
   starts [] none = refl
   starts (line ∷ lines) none = by_title (begins_block line) refl

@@ -518,7 +518,8 @@ no_inner_title (line ∷ lines) board fault is = by_test (is_wrong_title line) i
     by_test true is below = absurd cc
     by_test false is below = below is
 
--- no line before the first title has words, no title is wrong, and `answer`, the blocks' logs or the first block's fault, is `fault`
+-- There is no fault of a line before the first title (`start`) and no fault of a title (`title`). The answer for the blocks is the fault
+-- `fault`.
 record ToldOfBlock (start title : Option BatchFault) (answer : BatchAnswer) (fault : BatchFault) : Type 0 where
   start_is : start ≡ None
   title_is : title ≡ None

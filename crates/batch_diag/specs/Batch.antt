@@ -40,12 +40,12 @@ names_board (word ∷ words) = is_id words
 abbrev pub is_wrong_title : NumberedLine → Bool
 is_wrong_title line = begins_block line && not (names_board line.words)
 
--- the fault of the first line with words, if this line is not a title
+-- the fault of the first of these lines, if this line is not a title
 abbrev pub start_fault : List NumberedLine → Option BatchFault
 start_fault [] = None
 start_fault (line ∷ lines) = if begins_block line then None else Some (Start line.number)
 
--- the fault of the first wrong title, which has no id, more than an id, or an id that breaks the word rule
+-- the fault of the first wrong title; a title is wrong if it has no id, more than an id, or an id that breaks the word rule
 abbrev pub title_fault : List NumberedLine → Option BatchFault
 title_fault [] = None
 title_fault (line ∷ lines) = if is_wrong_title line then Some (Title line.number) else title_fault lines
@@ -59,7 +59,7 @@ pub record BlockLines : Type 0 where
   pub id : Word
   pub lines : List NumberedLine
 
--- each title begins a block, which has the lines between this title and the next title
+-- Each title begins a block. The block ends before the next title or, if there is none, at the end of the text.
 abbrev pub blocks_of : List NumberedLine → List BlockLines
 blocks_of [] = []
 blocks_of (line ∷ lines) =

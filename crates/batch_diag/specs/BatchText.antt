@@ -20,7 +20,7 @@ batch_text board [] verdicts = []
 batch_text board (block ∷ blocks) [] = []
 batch_text board (block ∷ blocks) (verdict ∷ verdicts) = block_text board block verdict ++ batch_text board blocks verdicts
 
--- for each block, in order, the text has the block's title and a diagnosis of the block's log
+-- the text consists of each block's title and a diagnosis of the block's log, in the order of the blocks
 abbrev pub IsBatchText : RawBoard → List Block → List ℕ → Type 0
 IsBatchText board [] text = text ≡ []
 IsBatchText board (block ∷ blocks) text =

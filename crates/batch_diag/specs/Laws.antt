@@ -10,14 +10,15 @@ use Rattle.batch_diag.specs.Batch.{begins_block, is_wrong_title, up_to_title, bl
 use Rattle.batch_diag.specs.Verdicts.{AreVerdicts, Verdict}
 use Rattle.batch_diag.specs.BatchText.{batch_text, IsBatchText}
 
--- `title` and `lines` give `block`: the title has the block's id, none of the lines is a title, and the lines are the block's log
+-- The title is the word BOARD and the block's id, which satisfies the word rule (`is_word`). None of the lines is a title, and the lines
+-- are the block's log.
 pub record IsBlockOf (rows len : ℕ) (title : NumberedLine) (lines : List NumberedLine) (block : Block) : Type 0 where
   pub words : title.words ≡ codes "BOARD" ∷ block.id ∷ []
   pub id : is_word block.id ≡ true
   pub inside : All (λ line. begins_block line ≡ false) lines
   pub log : rows_of_lines rows len lines ≡ Ok block.log
 
--- the lines are the titles and the other lines of these blocks, in order
+-- the lines consist of the lines of each block, in order: its title, and then the lines of its log
 abbrev pub AreBlocksOf : ℕ → ℕ → List NumberedLine → List Block → Type 0
 AreBlocksOf rows len lines [] = lines ≡ []
 AreBlocksOf rows len lines (block ∷ blocks) =
@@ -25,7 +26,8 @@ AreBlocksOf rows len lines (block ∷ blocks) =
     × IsBlockOf rows len title own block × AreBlocksOf rows len later blocks
     × (lines ≡ title ∷ (own ++ later))
 
--- a text is a batch of these blocks if and only if its lines with words are the titles and the other lines of the blocks
+-- a text is a batch of these blocks if and only if its lines with words are the titles of the blocks, each followed by the lines of the
+-- block's log
 abbrev pub BlocksAreTheLines : Type 0
 BlocksAreTheLines =
     (text : List ℕ) (rows len : ℕ) (blocks : List Block)
@@ -36,8 +38,8 @@ abbrev pub AreRight : List NumberedLine → Type 0
 AreRight lines = All (λ line. is_wrong_title line ≡ false) lines
 
 -- The fault is the first fault of the lines. `Start` is the fault of the first line, if this line is not a title. `Title` is the fault of
--- the first wrong title, if the first line is a title. `Inner` is the fault of the first block whose lines are not a log, if no title is
--- wrong and each line comes after a title.
+-- the first wrong title, if the first line is a title. `Inner` is the fault of the first block whose lines are not a log, if the first line
+-- is a title and no title is wrong.
 abbrev pub IsFirstFault : ℕ → ℕ → List NumberedLine → BatchFault → Type 0
 IsFirstFault rows len lines (Start n) =
     (line : NumberedLine) × (later : List NumberedLine) × (begins_block line ≡ false)

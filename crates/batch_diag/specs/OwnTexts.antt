@@ -92,7 +92,7 @@ pub record IsDiagnosisOf (board : RawBoard) (rows len : ℕ) (text diagnosis : L
   pub holds : log_rows text rows len ≡ Ok log
   pub is : IsDiagText board log diagnosis
 
--- for each block, in order, `out` has the block's title and the diagnosis of the log that the block's own text holds
+-- `out` consists of each block's title and the diagnosis of the log that the block's own text holds, in the order of the blocks
 abbrev pub AreDiagnosesOf : RawBoard → ℕ → ℕ → List BlockText → List ℕ → Type 0
 AreDiagnosesOf board rows len [] out = out ≡ []
 AreDiagnosesOf board rows len (block ∷ blocks) out =

@@ -19,7 +19,7 @@ pub enum BatchFault {
     /// This line is a title, but does not have exactly two words, or its id breaks the word rule.
     #[error("line {0}: board not allowed")]
     Title(u32),
-    /// The lines of block `board`, counted from 1, are not a log. `fault` is never lack of memory.
+    /// The lines of the block with number `board`, counted from 1, are not a log. `fault` is never lack of memory.
     #[error("{}", block_text(*.board, .fault))]
     Inner { board: u32, fault: LogFault },
     #[error("out of memory")]

@@ -23,10 +23,10 @@ use std::thread::Threads;
 /// the verdicts. The plan must be built from the board's passes. Each log must have as many rows as the plan's test, and each
 /// row must be as long as a data scan.
 ///
-/// The blocks are cut into as many pieces as there are workers, from 1 to 64. The sizes of the pieces differ by at most one
-/// block. Directly before a piece takes a block, it enters the gate with its own number and the number of the block, both
-/// counted from 0. The first half of the pieces runs side by side with the second half, and each half is halved again in the
-/// same way, down to single pieces. Each block is diagnosed by one worker. If memory is refused in any piece, the call fails.
+/// There must be 1 to 64 workers. The blocks are cut into as many pieces as there are workers. The sizes of the pieces differ by at most
+/// one block. Directly before a piece takes a block, it calls `gate.enter` with its own number and the number of the block, both counted
+/// from 0. The first half of the pieces runs side by side with the second half, and each half is halved again in the same way, down to
+/// single pieces. Each block is diagnosed by one worker. If memory runs out in any piece, the call returns the error.
 pub fn diagnose_all<R: Threads + Sync, G: Gate>(
     rt: &R,
     alloc: Global,
@@ -71,7 +71,8 @@ pub fn diagnose_blocks<R: Threads + Sync, G: Gate>(
     judge_kept(rt, alloc, test, &kept, blocks, workers, gate)
 }
 
-// Like `diagnose_blocks`, but also takes kept passes, which must be kept passes of this test. They make the diagnoses faster.
+// Like `diagnose_blocks`, but also takes kept passes, which make the diagnoses faster. A kept pass has rows of a pass and drivers that the
+// pass enables, computed in advance. `kept` must hold the first passes of this test, in order.
 fn judge_kept<R: Threads + Sync, G: Gate>(
     rt: &R,
     alloc: Global,
@@ -120,8 +121,8 @@ fn judge_all<R: Threads + Sync, G: Gate>(
     judge_pieces(rt, alloc, batch, workers, gate)
 }
 
-// Returns the verdict on block `i`, which one worker finds. The function takes the entry of the gate so that no log is judged before the
-// gate is entered.
+// Returns the verdict on block `i`, which one worker finds. `i` is counted from 0 and must be below the number of blocks. `_entered` shows
+// that the gate was entered, so no log is diagnosed before that.
 fn verdict_on<R: Threads + Sync>(
     rt: &R,
     alloc: Global,
@@ -136,7 +137,8 @@ fn verdict_on<R: Threads + Sync>(
     diagnose_in(rt, alloc, batch.test, log, Workers::of(1), &OpenGate)
 }
 
-// Enters the gate for the piece with number `piece`, and then returns the verdict on block `i`.
+// Enters the gate for the piece with number `piece`, and then returns the verdict on block `i`. `i` is counted from 0 and must be below the
+// number of blocks.
 fn judge<R: Threads + Sync, G: Gate>(
     rt: &R,
     alloc: Global,

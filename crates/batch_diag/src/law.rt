@@ -26,8 +26,8 @@ pub fn blocks_stand_by_themselves()
     ensures diagnoses { DiagnosesByThemselves }
 {}
 
-/// The text that `write_batch` writes for blocks and their verdicts has, for each block in order, the block's title and the
-/// diagnosis of its log.
+/// The text that `write_batch` writes for blocks and their verdicts consists of each block's title and the diagnosis of its log, in the
+/// order of the blocks.
 pub fn verdicts_make_text()
     ensures { VerdictsMakeText }
 {}

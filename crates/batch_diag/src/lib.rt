@@ -1,7 +1,7 @@
 //! Diagnoses many logs of one test side by side. The logs are in one text.
 //!
-//! A line whose first word is `BOARD` is a title. It begins a block, and its second word is the id of a board. The lines between
-//! a title and the next title are the log of that board. Each block is diagnosed as if it were alone.
+//! A line whose first word is `BOARD` is a title. It begins a block, and its second word is the id of a board. The lines after a title, up
+//! to the next title or the end of the text, are the log of that board. Each block is diagnosed as if it were alone.
 #![tactic(auto)]
 
 mod batch;

@@ -1,4 +1,4 @@
-// The lines of a batch: titles, which begin blocks, and the lines between them.
+// Cuts the text of a batch at its titles. A title is a line whose first word is `BOARD`, and it begins a block.
 ghost use Rattle.std.specs.Prelude.{◌≡◌, ◌+◌, ◌<◌, ◌≤◌, ◌^◌, ◌∷◌, [], ◌&&◌, not, length, map, IfOk, IfSome, option_copied};
 ghost use Rattle.text_lines.specs.Words.{words_of};
 ghost use Rattle.response_log.specs.LogRows.{holds_word, row_lines};
@@ -12,7 +12,7 @@ use short_lists::TextSlice;
 use std::alloc::{AllocError, Global};
 use text_lines::{first_line, is_blank, is_word, next_word};
 
-/// A line that begins a block: its number, the id in it, and the text after it.
+/// A title: its line number, the id in it, and the text after its line.
 #[derive(Clone, Copy)]
 pub struct Title<'a> {
     pub line: usize,
@@ -26,8 +26,8 @@ fn has_words(line: &[u8]) -> bool
     next_word(line).is_some()
 }
 
-// Returns whether the line begins with a byte with which no title can begin. Most rows begin with such a byte, so their words need not be
-// read.
+// Returns whether the first byte of the line is neither `B` nor blank, so the line is not a title. Most rows of a log begin with such a
+// byte, so their words need not be read.
 fn begins_row(line: &[u8]) -> bool
     ensures { result ≡ begins_row line.now }
 {
@@ -97,7 +97,7 @@ fn is_wrong_title(line: &[u8]) -> bool
     is_title(line) && !names_board(line)
 }
 
-/// Returns the fault of a text's first line with words, if this line is not a title. The text must have fewer than 2^32 bytes.
+/// Returns the fault of a text's first line with words, if this line is not a title. Otherwise returns `None`.
 pub fn start_fault(text: TextSlice<'_>) -> Option<BatchFault>
     ensures { result ≡ start_fault (row_lines text.entry.items.now) }
 {
@@ -126,7 +126,7 @@ fn no_title(line: &[u8], number: u32) -> Option<BatchFault>
 }
 
 /// Returns the fault of the first wrong title of a text. A title is wrong if it does not have exactly two words or its id breaks the word
-/// rule. The text must have fewer than 2^32 bytes.
+/// rule. Returns `None` if no title is wrong.
 pub fn title_fault(text: TextSlice<'_>) -> Option<BatchFault>
     ensures { result ≡ title_fault (row_lines text.entry.items.now) }
 {
@@ -150,8 +150,8 @@ fn or_nothing(text: Option<&[u8]>) -> &[u8]
     text.unwrap_or(b"")
 }
 
-/// Cuts a text at its first title. Returns the text before the title, and the title. If the text has no title, returns the whole text. The
-/// first line of the text has the number `number`. The sum of `number` and the length of the text must be below 2^33.
+/// Cuts a text at its first title. Returns the text before the title, and the title. If the text has no title, returns the whole text and
+/// `None`. The first line of the text has the number `number`. The sum of `number` and the length of the text must be below 2^33.
 pub fn cut_at_title(text: &[u8], number: usize) -> (&[u8], Option<Title<'_>>)
     requires { number + length text.now < 2 ^ 33 }
     ensures own { up_to_title (rows_from number text.now) ≡ rows_from number result.0.now }
@@ -179,7 +179,8 @@ pub fn cut_at_title(text: &[u8], number: usize) -> (&[u8], Option<Title<'_>>)
     (text, None)
 }
 
-// Returns the block with this title and the text `own` below the title.
+// Returns the block with this title and the text `own` below the title. The sum of the title's line number and the length of `own` must be
+// below 2^32.
 fn unread_block<'a>(title: Title<'a>, own: &'a [u8]) -> UnreadBlock<'a>
     requires { title.line + length own.now < 2 ^ 32 }
     ensures { lines_of_unread result
@@ -192,7 +193,7 @@ fn unread_block<'a>(title: Title<'a>, own: &'a [u8]) -> UnreadBlock<'a>
     }
 }
 
-/// Returns the blocks of a text, before their logs are read. Wrong titles begin blocks as well. The text must have fewer than 2^32 bytes.
+/// Returns the blocks of a text with their logs unread. Wrong titles begin blocks as well.
 pub fn list_blocks<'a>(
     alloc: Global,
     text: TextSlice<'a>,

@@ -51,11 +51,11 @@ fn put_blocks<K: Sink>(
     Ok(())
 }
 
-/// For each block of a batch, in order, writes the block's title and its verdict as a diagnosis. There must be a verdict for each block,
-/// and the faults of the verdicts must name nets and pins of the board. If there are no blocks, the text is empty. Each line goes to the
-/// sink as one piece, but a line of more than `MAX_LINE` bytes goes out in pieces of `MAX_LINE` bytes and a last piece with the rest.
-/// Allocates nothing. `line` is used as a buffer, and its content afterwards is unspecified. Fails only if the sink fails. The sink then
-/// took a prefix of the text.
+/// For each block of a batch, in order, writes the block's title and its verdict as a diagnosis. There must be exactly one verdict for each
+/// block, in the same order, and the faults of the verdicts must name nets and pins of the board. If there are no blocks, the text is
+/// empty. Each line goes to the sink as one piece, but a line of more than `MAX_LINE` bytes goes out in pieces of `MAX_LINE` bytes and a
+/// last piece with the rest. Allocates nothing. `line` is used as a buffer, and its content afterwards is unspecified. Fails only if the
+/// sink fails. The sink then took a prefix of the text.
 pub fn write_batch<K: Sink>(
     board: &Board,
     blocks: &[Block],

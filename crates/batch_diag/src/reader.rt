@@ -69,7 +69,8 @@ fn count(reading: &Reading<'_>) -> usize
     reading.unread.len()
 }
 
-// Returns the blocks of a text before their logs are read, or the fault of a line before the first title or of a wrong title.
+// Returns the blocks of a text with their logs unread. If a line with words comes before the first title, or if a title is wrong, returns
+// the fault instead.
 fn reading_of<'a>(
     alloc: Global,
     text: TextSlice<'a>,
@@ -94,7 +95,7 @@ fn reading_of<'a>(
     Ok(Reading { unread, rows, len })
 }
 
-// Returns block `i`, before its log is read. `i` must be below the number of blocks.
+// Returns block `i`, counted from 0, with its log unread. `i` must be below the number of blocks.
 fn unread_at<'a>(reading: &Reading<'a>, i: usize) -> UnreadBlock<'a>
     requires { i < length reading.now.unread.items }
     ensures { slice_get reading.now.unread.items i ≡ Some result }
@@ -102,8 +103,8 @@ fn unread_at<'a>(reading: &Reading<'a>, i: usize) -> UnreadBlock<'a>
     reading.unread[i]
 }
 
-// Returns the blocks `first..end`, or the fault of the first of these blocks whose lines are not a log. `first..end` must be a range of the
-// blocks.
+// Returns the blocks `first..end`, counted from 0, or the fault of the first of these blocks whose lines are not a log. `first..end` must
+// be a range of the blocks.
 fn read_between(
     alloc: Global,
     reading: &Reading<'_>,
@@ -147,8 +148,7 @@ fn read_pieces<R: Threads + Sync>(
     in_pieces(rt, alloc, count, workers.number(), &read)
 }
 
-// Reads the log of a block and returns the block. `board` is the number of the block, counted from 1. The sum of the title's line number
-// and the length of the text below the title must be less than 2^32.
+// Reads the log of a block and returns the block. `board` is the number of the block, counted from 1.
 fn read_block(
     alloc: Global,
     unread: UnreadBlock<'_>,

@@ -1,4 +1,4 @@
-// The blocks of a batch before their logs are read.
+// The blocks of a batch whose logs have yet to be read.
 ghost use Rattle.std.specs.Prelude.{◌+◌, ◌<◌, ◌^◌, length};
 
 /// A block whose log has yet to be read: the line number of its title, the id in the title, and the text below the title.

@@ -46,7 +46,7 @@ use Rattle.btest_cli.specs.inner.Reads.{IsUnread, OfRequest, Reads}
 use Rattle.btest_cli.specs.inner.Failures.{IsPut, IsUnput, wanted_view, unread_status, unread_line, unput_status, unput_line}
 use Rattle.btest_cli.specs.inner.RunOf.{IsRunOf}
 
--- if a line was put to the notes, the notes took the line, wholly or in part
+-- if a line was written to the notes, the notes took the line, in whole or in part
 pub took_or_cut : {T E : Type 0} {old new : Shown} {line : Text} (r : Result T E) → Puts old new line r → TookOrCut old new line
 took_or_cut (Ok x) puts = inl puts.whole
 took_or_cut (Err e) puts = inr (puts.cause, puts.cut)
@@ -529,7 +529,7 @@ logs_say_one boards rules diagnosis set = record {
   each = one_judged boards rules judging_each (one_each diagnosis);
 }
 
--- If each kind of texts has at most one answer, a reading gives at most one outcome.
+-- If each kind of text has at most one answer, a reading gives at most one outcome.
 module _ (devices : OneDevice) (chains : OneChain) (idents : OneIdents) (boards : OneBoard) (logs : LogsSayOne) where
   one_given : (names : Names) (request : Request) (a b : Result Text Text) → IsGiven names request a → IsGiven names request b → a ≡ b
   one_given names (Chain texts) a b is_a is_b =
@@ -701,7 +701,7 @@ logs_say_some boards rules diagnosis groups = record {
   each = some_judged boards rules judging_each (some_each diagnosis);
 }
 
--- If each kind of texts has an answer, each request has an outcome.
+-- If each kind of text has an answer, each request has an outcome.
 module _ (devices : SomeDevice) (chains : SomeChain) (idents : SomeIdents) (boards : SomeBoard) (logs : LogsSaySome) where
   some_given : (names : Names) (request : Request) → HasOutcome (IsGiven names request)
   some_given names (Chain texts) =

@@ -8,15 +8,15 @@ pub record Wanted : Type 0 where
   pub name : Text
   pub limit : ℕ
 
--- the name and the limit of a chain file, a net file or a BSDL text with this name
+-- a chain file, a net file or a BSDL text with this name, with the limit of 4 MiB
 abbrev pub text_called : Text → Wanted
 text_called name = record { name = name; limit = 4194304 }
 
--- the name and the limit of a response log or a batch of logs with this name
+-- a response log or a batch of logs with this name, with the limit of 64 MiB
 abbrev pub wanted_log : Text → Wanted
 wanted_log name = record { name = name; limit = 67108864 }
 
--- a file of response logs with these names, and then the files of its board
+-- the file of one or more response logs, and then the files of its board
 abbrev pub logs_wanted : LogNames → List Wanted
 logs_wanted names = wanted_log names.log ∷ map text_called (board_names names.board)
 
@@ -76,7 +76,8 @@ abbrev pub IsText : Held → Text → Text → Type 0
 IsText None name text = Unit {0}
 IsText (Some held) name text = held name ≡ Some text
 
--- Some text has more bytes than the limit. If the store's texts are known, the store holds this text under the name.
+-- Some text has more bytes than the limit of `wanted`. If the store's texts are known, the store holds this text under the name in
+-- `wanted`.
 abbrev pub IsLong : Held → Wanted → Type 0
 IsLong None wanted = (text : Text) × (wanted.limit < length text)
 IsLong (Some held) wanted = (text : Text) × (held wanted.name ≡ Some text) × (wanted.limit < length text)

@@ -1,4 +1,4 @@
-// The status and the line for texts that were not read, and for a text that was not written whole.
+// The status of a run that did not read all its texts or did not write its whole text, and the line that says why.
 ghost use Rattle.std.specs.Prelude.{◌≡◌};
 ghost use Rattle.bt_base.specs.Puts.{Puts};
 ghost use Rattle.btest_cli.specs.inner.Failures.{unread_status, unread_line, unput_status, unput_line};
@@ -16,9 +16,9 @@ use refusal_lines::{
 /// The reason why the texts of a command were not all read.
 #[derive(Drop)]
 pub enum Unread<'a> {
-    /// This text is too long.
+    /// This text is longer than its limit.
     TooLong(Wanted<'a>),
-    /// This text was not read.
+    /// Reading this text failed.
     Failed(Wanted<'a>),
     /// There was not enough memory.
     Memory,

@@ -1,4 +1,5 @@
-//! The top call of the program. It reads texts, writes the text or a refusal, and returns the status.
+//! The function `run`, which runs a command line: it reads the texts that the words name, writes the text of the command or one line that
+//! says why not, and returns the status.
 #![tactic(auto)]
 
 mod failure;

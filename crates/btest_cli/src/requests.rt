@@ -13,7 +13,7 @@ use command_line::{
 use commands::{BoardTexts, ChainTexts, LogTexts, Request};
 use std::alloc::Global;
 
-/// Reads the texts of a command, in the order of their names. Stops at the first text that is not read or is too long.
+/// Reads the texts of a command, in the order in which the command names them. Stops at the first text that is not read or is too long.
 pub fn read_request<'a, S: Store>(
     alloc: Global,
     command: &NamedCommand<'a>,
@@ -87,7 +87,7 @@ fn read_board<'a, S: Store>(
     }
 }
 
-// Reads a text of logs, and then the texts of their board.
+// Reads a log or a batch of logs, and then the texts of its board.
 fn read_logs<'a, S: Store>(
     alloc: Global,
     names: &LogNames<'a>,

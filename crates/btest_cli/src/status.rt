@@ -7,13 +7,13 @@ ghost use Rattle.btest_cli.specs.ExitNumbers.{exit_number};
 pub enum Status {
     /// The whole text was written.
     Done,
-    /// The texts have a fault.
+    /// The texts have a fault, or a text is too long.
     Refused,
-    /// The words form no command.
+    /// The words are not a command line of the grammar.
     Usage,
-    /// A text was not read.
+    /// Reading a text failed.
     ReadFault,
-    /// A piece of the text was not written.
+    /// Writing the text failed.
     WriteFault,
     /// There was not enough memory. Nothing was written to the output.
     NoMemory,

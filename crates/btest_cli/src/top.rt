@@ -1,4 +1,4 @@
-// The top call of the program.
+// The function that runs a command line.
 ghost use Rattle.std.specs.Prelude.{◌≡◌, ◌≢◌, ◌⊎◌, map, None, string_bytes};
 ghost use Rattle.bt_base.specs.Counts.{Rose};
 ghost use Rattle.command_line.specs.Words.{command_of, names_in_command};
@@ -24,8 +24,8 @@ use std::alloc::Global;
 use std::thread::Threads;
 use walk_test::law::logs_have_one_set;
 
-/// Runs a command line: reads its words, fetches the texts that they name, checks these texts, and writes the text that they give to `out`.
-/// At every status but `Done`, writes one line to `notes`. If `notes` fails, it takes only some first bytes of this line.
+/// Runs a command line: reads its words, fetches the texts that they name from `store`, checks these texts, and writes the text that they
+/// give to `out`. At every status but `Done`, writes one line to `notes`. If `notes` fails, it takes only some first bytes of this line.
 pub fn run<R: Threads + Sync, S: Store, K: Sink, N: Sink, G: Gate>(
     rt: &R,
     alloc: Global,
@@ -82,9 +82,8 @@ pub fn run<R: Threads + Sync, S: Store, K: Sink, N: Sink, G: Gate>(
     ensures memory_asks { result ≡ Status.NoMemory
         → ForCommand words.now (λ c. AsksSome c (S.asked store.old) (S.asked store.new)) }
 
-    // If the texts that the store holds are known and no fault count rose, these texts determine
-    // the status, unless memory ran out. For a command that reads no text, this is true of every
-    // store.
+    // If the texts that the store holds are known and no fault count rose, these texts determine the status, unless memory ran out. For a
+    // command that reads no text, this is true of every store.
     ensures complete { ForCommand words.now (λ c. IsComplete (S.held store.old) c
         (SomeRose (S.faults store.old) (S.faults store.new) (names_in_command c)) (Rose (K.shown out.old).faults (K.shown out.new).faults) result) }
 {
@@ -105,7 +104,7 @@ pub fn run<R: Threads + Sync, S: Store, K: Sink, N: Sink, G: Gate>(
     }
 }
 
-// Runs a command.
+// Reads the texts of a command and writes the command's text to `out`. If this fails, writes the line that says why to `notes`.
 fn run_command<R: Threads + Sync, S: Store, K: Sink, N: Sink, G: Gate>(
     rt: &R,
     alloc: Global,
@@ -134,7 +133,8 @@ fn run_command<R: Threads + Sync, S: Store, K: Sink, N: Sink, G: Gate>(
     }
 }
 
-// Returns the names of the texts of a command, each name in the field for its kind of text.
+// Returns the names of the texts of a command, each name in the field for its kind of text. `make` reads no texts, so the texts that it
+// generates get fixed names.
 fn roles_of<'n, 'a>(command: &'n NamedCommand<'a>) -> Names<'n, 'a>
     ensures { names_view result ≡ roles_of command.now }
 {
@@ -166,7 +166,7 @@ fn roles_of<'n, 'a>(command: &'n NamedCommand<'a>) -> Names<'n, 'a>
     }
 }
 
-// Returns the names of the texts of a command that works on a board.
+// Returns the names of the texts of a command that works on a board. `log` is empty if the command reads no log.
 fn board_roles<'n, 'a>(log: &'a str, names: &'n BoardNames<'a>) -> Names<'n, 'a>
     ensures { names_view result ≡ board_roles log.entry.now names.now }
 {

@@ -67,7 +67,7 @@ IsBoardOf texts found = IsBoardRead texts.chain texts.nets texts.bsdl found
 abbrev pub BoardAnswers : (RawBoard → Text) → (BoardTexts → Text → Type 0) → BoardTexts → Shown → Shown → Result (Unit {0}) Unput → Type 0
 BoardAnswers text_of IsWorth texts old new result = Answers (IsBoardOf texts) text_of (IsWorth texts) old new result
 
--- the answer of a command that judges a text of logs against this board
+-- the answer of a command that judges a text of logs against `board`
 abbrev pub AnswersOn : {L E A : Type 0} → Judging L E A → (RawBoard × A → Text)
     → (Text → RawBoard → Text → Type 0) → Text → RawBoard → Shown → Shown → Result (Unit {0}) Unput
     → Type 0
@@ -80,7 +80,7 @@ AnswersOn judging text_of IsWorth text board old new result =
 abbrev pub IsJudgedOf : {L E A : Type 0} → Judging L E A → LogTexts → Result (RawBoard × A) TextFault → Type 0
 IsJudgedOf judging texts found = OnDenoted judging texts.log texts.board.chain texts.board.nets texts.board.bsdl found
 
--- the answer for what a text of logs shows for the board that the other texts denote
+-- the answer of a command that judges a text of logs against the board that the other texts denote
 abbrev pub JudgedAnswers : {L E A : Type 0} → Judging L E A → (RawBoard × A → Text)
     → (Text → RawBoard → Text → Type 0) → LogTexts → Shown → Shown → Result (Unit {0}) Unput
     → Type 0

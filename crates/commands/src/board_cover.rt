@@ -44,7 +44,8 @@ fn put_cover<K: Sink>(alloc: Global, board: &Board, out: &mut K) -> Result<(), U
     put
 }
 
-// Like `put_cover`, but also takes `classes`, which must be the board's classes.
+// Like `put_cover`, but also takes `classes`, which must be the board's classes. They say what the board's nets, pins and controls can do
+// in safe settings.
 fn put_list<K: Sink>(
     alloc: Global,
     board: &Board,

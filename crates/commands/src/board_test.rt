@@ -132,7 +132,7 @@ pub fn longest_scan(board: &Board) -> u32
     board.ir_bits().max(board.dr_bits())
 }
 
-/// The rows in which the scans of a test are made, and the rows of one whole pass, which are computed once for all scans of the pass.
+/// The buffers in which the scans of a test are made, and the rows of one whole pass, which are computed once for all scans of the pass.
 #[derive(Drop)]
 pub struct TestRows {
     pub rows: Rows,
@@ -153,7 +153,7 @@ impl TestRows {
     }
 }
 
-/// Writes the test of a plan. `made` must have been made for the board of the test.
+/// Writes the test of a plan. `made` must have been made for the board of the test, and must not have been used for another test.
 pub fn write_test<K: Sink>(
     test: &BoardPlan<'_>,
     made: &mut TestRows,
@@ -189,8 +189,10 @@ fn write_scans<K: Sink>(
     write_tail(out)
 }
 
-// Writes scan `k` of a plan. If `held` has a shape before the call, the rows must hold scan `k - 1`, and this must be the shape of that
-// scan. After the call, the rows hold scan `k`, and `held` has the shape of scan `k`.
+// Writes scan `k` of a plan. A shape says whether a scan is an instruction scan and whether it compares bits. If `held` has a shape before
+// the call, the rows must hold scan `k - 1`, and this must be the shape of that scan. After the call, the rows hold scan `k`, and `held`
+// has the shape of scan `k`. `k` must be below the number of scans, and above 0 if `held` has a shape. The rows must have room for a scan
+// of the board, and `kept` must hold no rows of another test.
 fn write_scan_at<K: Sink>(
     test: &BoardPlan<'_>,
     k: u64,
@@ -220,7 +222,8 @@ fn write_scan_at<K: Sink>(
 }
 
 // Fills the rows with scan `k` of a plan and returns the scan's shape. If `before` has a shape, the rows must hold scan `k - 1`, and this
-// must be the shape of that scan. The call is then faster.
+// must be the shape of that scan. The call is then faster. The conditions on `k`, the room of the rows and `kept` are as in
+// `write_scan_at`.
 fn fill_at(
     test: &BoardPlan<'_>,
     k: u64,

@@ -125,7 +125,8 @@ fn walk_of(alloc: Global, board: &Board) -> Result<Walk, AllocError>
     walk
 }
 
-// Like `walk_of`, but also takes `classes` and `pins`, which must be the board's classes and the pins of its nets.
+// Like `walk_of`, but also takes `classes` and `pins`. These must be the board's classes (what its nets, pins and controls can do in safe
+// settings) and the pins of its nets.
 fn walk_by(
     alloc: Global,
     board: &Board,
@@ -173,7 +174,7 @@ fn is_harmless(board: &Board)
     walk_harmless();
 }
 
-// Like `put_walk`, but also takes the rows in which the scans are made. The rows must have room for them.
+// Like `put_walk`, but also takes the buffers `rows`, in which the scans are made. The rows must have room for them.
 #[tactic(auto, unfolding(tap_defs::specs::chain::Text::svf_text))]
 fn write_walk<K: Sink>(walked: &Walked, rows: &mut Rows, out: &mut K) -> Result<(), PutFault>
     requires { EachStoredHasRoom (IsRoom walked.now.board) rows.old.scan }

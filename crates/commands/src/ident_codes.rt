@@ -38,8 +38,8 @@ pub fn ident<K: Sink>(alloc: Global, texts: &ChainTexts, out: &mut K) -> Result<
     }
 }
 
-// Writes the test of the identification codes with these patterns. There must be 1 to 255 items, and each pattern must have 32 symbols. The
-// scan of the codes must have at most 255 times 32 bits.
+// Writes the test of the identification codes with these patterns. `patterns` has an item for each part, which is `None` if the part has no
+// pattern. There must be 1 to 255 items, and each pattern must have 32 symbols. The scan of the codes must have at most 255 times 32 bits.
 fn put_test<K: Sink>(alloc: Global, patterns: &[Option<Code>], out: &mut K) -> Result<(), Unput>
     requires patterns { ArePatterns patterns.now }
     requires room { length (ident_bits patterns.now) ≤ most_parts * 32 }
@@ -49,7 +49,7 @@ fn put_test<K: Sink>(alloc: Global, patterns: &[Option<Code>], out: &mut K) -> R
     answer_by(write_test(patterns, &mut rows, out))
 }
 
-// Like `put_test`, but also takes the rows in which the scan is made. The rows must have room for it.
+// Like `put_test`, but also takes the buffers `rows`, in which the scan is made. The rows must have room for it.
 fn write_test<K: Sink>(
     patterns: &[Option<Code>],
     rows: &mut Rows,

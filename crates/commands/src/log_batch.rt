@@ -46,7 +46,7 @@ pub fn batch<R: Threads + Sync, K: Sink, G: Gate>(
     }
 }
 
-// Reads a batch of logs of the board's test and writes the diagnoses.
+// Reads a batch of logs of the board's test from `text` and writes the diagnoses.
 fn put_batch<R: Threads + Sync, K: Sink, G: Gate>(
     rt: &R,
     alloc: Global,
@@ -91,8 +91,8 @@ fn put_blocks<R: Threads + Sync, K: Sink, G: Gate>(
     put_verdicts(alloc, board, blocks, &verdicts, out)
 }
 
-// Writes the verdicts on the blocks. There must be one verdict for each block, and the faults of the verdicts must name nets and pins of
-// the board.
+// Writes the verdicts on the blocks. There must be exactly one verdict for each block, in the same order, and the faults of the verdicts
+// must name nets and pins of the board.
 fn put_verdicts<K: Sink>(
     alloc: Global,
     board: &Board,

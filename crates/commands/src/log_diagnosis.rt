@@ -48,7 +48,7 @@ pub fn diagnosis<R: Threads + Sync, K: Sink, G: Gate>(
     }
 }
 
-// Reads a log of the board's test and writes its diagnosis. The log reuses the memory of the text.
+// Reads a log of the board's test from `text` and writes its diagnosis. The log reuses the memory of the text.
 fn put_diagnosis<R: Threads + Sync, K: Sink, G: Gate>(
     rt: &R,
     alloc: Global,
@@ -92,7 +92,7 @@ fn put_judged<R: Threads + Sync, K: Sink, G: Gate>(
     put_verdict(alloc, board, &verdict, out)
 }
 
-// Writes the verdict on a log.
+// Writes the verdict on a log. The faults of the verdict must name nets and pins of the board.
 fn put_verdict<K: Sink>(
     alloc: Global,
     board: &Board,

@@ -40,7 +40,7 @@ pub fn groups<K: Sink>(alloc: Global, texts: LogTexts, out: &mut K) -> Result<()
     }
 }
 
-// Borrows the groups, if there are any.
+// Returns the groups as a slice, or `None` if there are none.
 fn lent(found: &Option<Vec<Group>>) -> Option<&[Group]>
     ensures { option_map (λ groups. groups.now) result
         ≡ option_map (λ groups. groups.items) found.now }
@@ -51,7 +51,7 @@ fn lent(found: &Option<Vec<Group>>) -> Option<&[Group]>
     }
 }
 
-// Reads a log of the board's walking test and writes the groups that explain the log. The log reuses the memory of the text.
+// Reads a log of the board's walking test from `text` and writes the groups that explain the log. The log reuses the memory of the text.
 fn put_groups<K: Sink>(
     alloc: Global,
     walked: &Walked,
@@ -85,7 +85,7 @@ fn put_grouped<K: Sink>(alloc: Global, walked: &Walked, log: &Log, out: &mut K) 
     put_found(alloc, board, &found, out)
 }
 
-// Writes the groups `found` of a log.
+// Writes the groups that explain a log. If `found` is `None`, writes that no set of groups explains the log.
 fn put_found<K: Sink>(
     alloc: Global,
     board: &Board,

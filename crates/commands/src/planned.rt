@@ -1,4 +1,5 @@
-// The board that texts denote, its classes, the pins of its nets, and the plan of its test.
+// The board that the texts denote, its classes (what its nets, pins and controls can do in safe settings), the pins of its nets, and the
+// plan of its test.
 ghost use Rattle.std.specs.Prelude.{◌≡◌, ◌*◌, Ok, IfOk, IfErr, length};
 ghost use Rattle.board_defs.specs.Passes.{passes_of};
 ghost use Rattle.board_defs.specs.Pins.{data_bits};
@@ -23,8 +24,8 @@ use scan_planner::Plan;
 use std::alloc::{AllocError, Global};
 use std::marker::Model;
 
-/// A board and the plan of its test. The plan has the passes of the board. Contracts see the pair of the two. A `BoardTest` borrows its board
-/// and its plan. This type owns them, so it has an invariant of its own.
+/// A board and the plan of its test. The plan has the passes of the board. Its value in contracts is this pair. A `BoardTest` borrows its
+/// board and its plan. This type owns them, so it has an invariant of its own.
 #[derive(Drop)]
 pub struct Planned {
     pub board: Board,
@@ -81,7 +82,7 @@ impl Planned {
     }
 }
 
-/// The classes of a board and the pins of its nets, made from the same pin tables.
+/// The classes of a board and the pins of its nets. Both are made from the same tables of the board's pins.
 #[derive(Drop)]
 pub struct ClassesWithPins {
     pub classes: Classes,

@@ -1,4 +1,4 @@
-// The rows in which scans are made and from which they are printed.
+// The buffers in which a command makes its scans and collects its output.
 ghost use Rattle.std.specs.Prelude.{◌≡◌, IfOk};
 ghost use Rattle.commands.specs.inner.Rows.{EachStoredHasRoom};
 
@@ -6,7 +6,8 @@ use bt_bits::{Line, Row};
 use std::alloc::{AllocError, Global};
 use tap_defs::StoredRows;
 
-/// The rows of a scan, and the line in which output is collected. A command allocates them once for its whole output.
+/// The rows of a scan, one each for its TDI, TDO and MASK bits, and the line, a buffer in which output is collected. A command allocates
+/// them once for its whole output.
 #[derive(Drop)]
 pub struct Rows {
     pub scan: StoredRows,
@@ -14,7 +15,7 @@ pub struct Rows {
 }
 
 impl Rows {
-    /// Allocates rows with room for `room` bits each.
+    /// Allocates three rows with room for `room` bits each, and a line.
     pub fn with_room(alloc: Global, room: u32) -> Result<Rows, AllocError>
         ensures { IfOk result (λ rows. EachStoredHasRoom (λ bits. bits ≡ room) rows.scan) }
     {

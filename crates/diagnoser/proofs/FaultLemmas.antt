@@ -1,5 +1,5 @@
--- Lemmas which say that every single fault that explains a log is at the place of some suspect. So a search among the suspects finds all
--- single faults that explain the log.
+-- The suspects of a log are the numbers of the single faults that may explain it. The lemmas say that every single fault that explains the
+-- log is among them, so a search among the suspects finds all these faults.
 use Rattle.std.proofs.Common.{◌≡◌, ℕ, zero, suc, Bool, true, false, ◌==◌, ◌&&◌, List, length, Result, Ok, Err, Some, ◌⊎◌, inl, inr, get_or, ◌<◌, refl, sym, ap, ◌∙◌, subst}
 use Rattle.std.specs.Prelude.{filter, filter_map, slice_get, All, IfOk}
 use Rattle.std.specs.List.{list_any}
@@ -45,7 +45,7 @@ kind_back Or = refl
 kind_back First = refl
 kind_back Second = refl
 
--- true if two faults are equal
+-- returns true if and only if the two faults are equal
 abbrev same_single : Single → Single → Bool
 same_single (StuckNet n v) (StuckNet m w) = (n == m) && is_same v w
 same_single (StuckNet n v) (OpenPin q w) = false

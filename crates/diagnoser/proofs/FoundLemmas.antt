@@ -75,7 +75,7 @@ found_one s i place single holds at some decides =
     by_test true decides = inl ([], decides.0 refl, refl, refl)
     by_test false decides = inr ((λ explains. let bad : false ≡ true = decides.1 explains in cc bad), refl)
 
--- a place, and the fault that is there if some pass observes all nets of the fault
+-- Lemmas about a search at one place. A place is the number of a possible single fault.
 module _ (s : SearchedLog) (place : ℕ) where
   abbrev plan : PlanTables
   plan = s.logged.test.plan
@@ -105,7 +105,7 @@ module _ (s : SearchedLog) (place : ℕ) where
           (λ e. (decides.0 e).1, λ explains. decides.1 (on, explains))
       by_test false off = by_answer holds refl off
 
--- the fault that the lists of a board's universe have at a place
+-- Lemmas about the fault that the lists of a board's universe have at a place.
 module _ (board : RawBoard) (rules : IsBoard board) (plan : PlanTables) (p : IsPlanOf board plan)
     (are : ArePasses board plan.passes) (lists : FaultLists) (universe : IsUniverse board lists)
     (place : ℕ) (fault : Option Single)

@@ -14,11 +14,11 @@ use Rattle.tap_defs.specs.board.BoardScans.{svf_row_scans}
 use Rattle.tap_defs.specs.board.Explaining.{IsExpected}
 use Rattle.diagnoser.specs.Diagnosis.{AreExplaining}
 
--- the line of a stuck net, with its name and the value that it is stuck at
+-- the line of a stuck net, with the net's name and the value that the net is stuck at
 abbrev pub stuck_line : List ℕ → Bool → List ℕ
 stuck_line name value = line_of (codes "stuck " ∷ name ∷ codes " " ∷ bit_word value ∷ [])
 
--- the line of an open pin, with the pin and the value that it reads; no bytes if there is no such pin
+-- the line of an open pin, with the pin and the value that the pin reads; no bytes if there is no pin
 abbrev pub open_line : Option NetPin → Bool → List ℕ
 open_line None value = []
 open_line (Some pin) value = line_of (codes "open " ∷ pin.part ∷ codes "." ∷ pin.pin ∷ codes " " ∷ bit_word value ∷ [])
@@ -34,7 +34,7 @@ short_line Or a b = short_fault_line (codes "OR") a b
 short_line First a b = short_fault_line (codes "DOM") a b
 short_line Second a b = short_fault_line (codes "DOM") b a
 
--- the line of a stuck net, of an open pin or of a short
+-- the line of a single fault: a stuck net, an open pin or a short
 abbrev pub fault_line : RawBoard → Single → List ℕ
 fault_line board (StuckNet net value) = stuck_line (net_name board net) value
 fault_line board (OpenPin pin value) = open_line (pin_at board pin) value
@@ -50,8 +50,8 @@ unfoldable pub diag_text : RawBoard → Bool → List Single → List ℕ
 diag_text board true faults = line_of (codes "PASS" ∷ [])
 diag_text board false faults = fail_line (length faults) ++ flat_map (fault_line board) faults
 
--- `text` is the diagnosis of a log of the board's test. `pass` is true exactly if every compared bit is the expected bit. `faults` are the
--- single faults that explain the log.
+-- `text` is the diagnosis of a log of the board's test. `pass` is true if and only if every compared bit of the log is the expected bit.
+-- `faults` are the single faults that explain the log.
 pub record IsDiagText (board : RawBoard) (log : List (List Bool)) (text : List ℕ) : Type 0 where
   pub pass : Bool
   pub passes : IsTrue pass ↔ (IsExpected board (svf_row_scans board) log)

@@ -22,11 +22,11 @@ use std::thread::Threads;
 /// Neither the number of workers nor the gate changes the result. The plan must be built from the board's passes. The log must have the
 /// plan's rows, each as long as a data scan. There must be 1 to 64 workers.
 ///
-/// The candidates are the suspects, that is, the places whose faults may explain the log. A place is the number of a possible single fault.
-/// The candidates are cut into as many pieces as there are workers, and the sizes of the pieces differ by at most one candidate. Directly
-/// before a piece tries a candidate, it enters the gate with two numbers: the number of the piece, counted from 0, and the candidate's
-/// place. The first half of the pieces runs side by side with the second half. Each half is halved again in the same way, down to single
-/// pieces. If memory runs out in any piece, the call returns the error.
+/// The possible single faults of a board are numbered, and the number of a fault is its place. The candidates are the places of the faults
+/// that may explain the log. The candidates are cut into as many pieces as there are workers, and the sizes of the pieces differ by at most
+/// one candidate. Directly before a piece tries a candidate, it calls `gate.enter` with two numbers: the number of the piece, counted from
+/// 0, and the candidate's place. The first half of the pieces runs side by side with the second half. Each half is halved again in the same
+/// way, down to single pieces. If memory runs out in any piece, the call returns the error.
 pub fn diagnose<R: Threads + Sync, G: Gate>(
     rt: &R,
     alloc: Global,
@@ -50,7 +50,7 @@ pub fn diagnose<R: Threads + Sync, G: Gate>(
     explaining(rt, alloc, &search, Workers::of(workers), gate)
 }
 
-// Returns the single faults that explain the log of a search, each once and in order.
+// Returns the single faults that explain the log of a search, each once and in the order of the board's list of single faults.
 fn explaining<R: Threads + Sync, G: Gate>(
     rt: &R,
     alloc: Global,
@@ -69,7 +69,8 @@ fn explaining<R: Threads + Sync, G: Gate>(
     search.faults(rt, alloc, workers, gate)
 }
 
-/// Returns the verdict on a log, given the log with its test. The candidates are tried as in `diagnose`.
+/// Returns the verdict on the log in `logged`, which has a log and the board's test. The candidates are tried as in `diagnose`. If memory
+/// runs out, the call returns the error.
 pub fn diagnose_logged<R: Threads + Sync, G: Gate>(
     rt: &R,
     alloc: Global,
@@ -86,7 +87,9 @@ pub fn diagnose_logged<R: Threads + Sync, G: Gate>(
     diagnose_in(rt, alloc, &test, logged.log(), workers, gate)
 }
 
-/// Like `diagnose_logged`, but also takes the universe of the board, which many logs of the test can share.
+/// Like `diagnose_logged`, but takes the test and the log separately. `test` also has the universe of the board, which numbers the possible
+/// single faults. Many logs of the test can share it. `log` must be a log of the test: it must have the plan's rows, each as long as a data
+/// scan.
 pub fn diagnose_in<R: Threads + Sync, G: Gate>(
     rt: &R,
     alloc: Global,

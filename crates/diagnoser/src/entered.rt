@@ -9,7 +9,7 @@ pub struct Entered {
 }
 
 impl Entered {
-    /// Enters the gate for an item of the piece with this number. Returns the value that shows this.
+    /// Enters the gate with the number of a piece and the number of an item in it. Returns the value that shows this.
     pub fn by<G: Gate>(gate: &G, piece: u32, item: u64) -> Entered {
         gate.enter(piece, item);
         Entered { _entry: () }

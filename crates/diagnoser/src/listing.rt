@@ -12,7 +12,7 @@ use board_defs::{Board, NetPin, PinRef, Single};
 use bt_base::{PutFault, Sink};
 use bt_bits::Line;
 
-// Returns the name of a net, which must be on the board.
+// Returns the name of net `n`. The board must have the net.
 fn net_name(board: &Board, n: u32) -> &[u8]
     requires { n < length board.now.nets }
     ensures { result.now ≡ net_name board.now n }
@@ -20,7 +20,7 @@ fn net_name(board: &Board, n: u32) -> &[u8]
     board.raw().nets.as_slice()[n as usize].name.bytes()
 }
 
-// Returns the pin that `pin` refers to, which must be on the board.
+// Returns the pin that `pin` refers to. The board must have the pin.
 fn pin_at(board: &Board, pin: PinRef) -> &NetPin
     requires { IsOnBoard board.now pin }
     ensures { pin_at board.now pin ≡ Some result.now }

@@ -1,4 +1,4 @@
-// The search for the faults that explain a log, in pieces that run side by side.
+// The search for the single faults that explain a log. It is cut into pieces, which run side by side.
 ghost use Rattle.std.specs.Prelude.{◌≡◌, ◌↔◌, ◌+◌, ◌<◌, ◌≤◌, ◌++◌, true, length, IsTrue, IfOk, IfSome, OnOk};
 ghost use Rattle.std.specs.Option.{option_to_list};
 ghost use Rattle.board_defs.specs.Faults.{IsSingle};
@@ -20,8 +20,10 @@ use std::alloc::{AllocError, Global};
 use std::marker::Model;
 use std::thread::Threads;
 
-/// A search for the faults that explain a log: the log, and the candidates. The candidates are the places of the faults that may explain
-/// the log. `telling` is the first net that differs, in the first pass in which this net shows an unexpected bit.
+/// A search for the single faults that explain a log: the log with its test, and the candidates. `universe` numbers the possible single
+/// faults of the board. The number of a fault is its place. The candidates, `suspects`, are the places of the faults that may explain the
+/// log. `telling` is the first net that has an unexpected bit in the log, with the first pass in which the net has one. It is `None` if no
+/// net has one.
 #[derive(Drop)]
 pub struct Search<'a> {
     compared: ComparedLog<'a>,
@@ -41,7 +43,8 @@ impl<'a> Model for Search<'a> {
 }
 
 impl<'a> Search<'a> {
-    /// Compares a log of the test with the expected bits, and finds the candidates.
+    /// Compares `log` with the expected bits, and finds the candidates. `log` must be a log of the test: it must have the plan's rows, each
+    /// as long as a data scan.
     pub fn new(
         alloc: Global,
         test: &'a TestUniverse<'a>,
@@ -62,7 +65,7 @@ impl<'a> Search<'a> {
         })
     }
 
-    /// Returns the log.
+    /// Returns the log with its test, compared with the expected bits.
     pub fn compared(&self) -> &ComparedLog<'a>
         ensures { result.now ≡ self.now.logged }
     {
@@ -85,7 +88,8 @@ impl<'a> Search<'a> {
         &self.suspects
     }
 
-    // Returns true only if the telling net rules the fault out. A single fault of the board that is ruled out does not explain the log.
+    // Returns whether there is a telling net and this net rules the fault out. A single fault of the board that is ruled out does not
+    // explain the log.
     fn is_ruled_out(&self, fault: Single) -> bool
         ensures { result ≡ true → IsSingle self.now.logged.test.board fault
             → Explains self.now.logged.test.board fault self.now.logged.log → ⊥ }
@@ -96,8 +100,8 @@ impl<'a> Search<'a> {
         }
     }
 
-    // Returns the fault at a place, even if no pass observes all nets of the fault. `near` speeds up the look-up, as in
-    // `Universe::candidate`.
+    // Returns the fault at a place, or `None` if the place has none. The fault may also be a short of two nets that no pass observes
+    // together. `near` speeds up the look-up, as in `Universe::candidate`.
     fn candidate(&self, place: u64, near: &mut usize) -> Option<Single>
         ensures place { fault_at self.now.logged.test.board place
             ≡ where_observed self.now.logged.test.plan result }
@@ -112,9 +116,9 @@ impl<'a> Search<'a> {
         self.universe().candidate(place, near)
     }
 
-    // Returns whether some pass observes all nets of a candidate's fault and the fault explains the log. If some pass observes all its nets,
-    // the fault must be a single fault of the board. The telling net is tried first, since it rules out most candidates. The function takes the
-    // entry of the gate so that no candidate is tried before the gate is entered.
+    // Returns whether some pass observes all nets of a candidate's fault and the fault explains the log. If some pass observes all its
+    // nets, the fault must be a single fault of the board. The telling net is asked first, since it rules out most shorts. `_entered` shows
+    // that the gate was entered, so no candidate is tried before that.
     fn explains(&self, fault: Single, _entered: &Entered) -> bool
         requires { observes_fault self.now.logged.test.plan fault ≡ true
             → IsSingle self.now.logged.test.board fault }
@@ -132,7 +136,8 @@ impl<'a> Search<'a> {
         compared.matches(fault)
     }
 
-    // Enters the gate for a piece, and then returns the fault of candidate `i` if this fault explains the log. `near` is as in `candidate`.
+    // Enters the gate for piece number `piece`, and then returns the fault of candidate `i` if this fault explains the log. `i` is counted
+    // from 0 and must be below the number of candidates. `near` is as in `candidate`.
     fn try_candidate<G: Gate>(
         &self,
         piece: u32,
@@ -153,8 +158,8 @@ impl<'a> Search<'a> {
         }
     }
 
-    // Tries the candidates of a piece and returns the faults that explain the log, in the order of the candidates. The piece must be a range of
-    // the candidates.
+    // Tries the candidates of a piece in turn, and returns the faults that explain the log, in the order of the candidates. The piece must
+    // be a range of the candidates.
     fn search_piece<G: Gate>(
         &self,
         alloc: Global,
@@ -175,8 +180,8 @@ impl<'a> Search<'a> {
         Ok(faults)
     }
 
-    /// Tries all candidates and returns the faults that explain the log, in the order of the candidates. The candidates are cut into as many
-    /// pieces as there are workers. The pieces run side by side.
+    /// Tries all candidates and returns the faults that explain the log, in the order of the candidates. The candidates are cut into as
+    /// many pieces as there are workers. The pieces run side by side.
     pub fn faults<R: Threads + Sync, G: Gate>(
         &self,
         rt: &R,

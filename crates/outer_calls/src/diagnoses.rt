@@ -18,8 +18,8 @@ use scan_planner::Plan;
 use std::alloc::{AllocError, Global};
 use std::thread::Threads;
 
-/// Returns the single faults of the board that explain the log. The plan must be built from the board's passes. The log must have the
-/// plan's rows, each as long as a data scan. There must be 1 to 64 workers.
+/// Returns the single faults of the board that explain the log, each once and in the order of the board's list of single faults. The plan
+/// must be built from the board's passes. The log must have the plan's rows, each as long as a data scan. There must be 1 to 64 workers.
 pub fn diagnose<R: Threads + Sync, G: Gate>(
     rt: &R,
     alloc: Global,

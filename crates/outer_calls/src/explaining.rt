@@ -42,7 +42,8 @@ pub fn matches(board: &Board, plan: &Plan, fault: Single, log: &Log) -> bool
     fault_sim::matches(board, plan, fault, log)
 }
 
-/// Returns the number of places: two for each covered net, two for each tested pin and four for each pair of covered nets.
+/// Returns the number of places of the universe. The universe of a board numbers its possible single faults, and the number of a fault is
+/// its place. There are two places for each covered net, two for each tested pin and four for each pair of covered nets.
 pub fn place_count(universe: &Universe) -> u64
     ensures { result ≡ place_count universe.now }
 {

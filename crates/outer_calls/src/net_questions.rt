@@ -1,6 +1,6 @@
-//! Calls of `net_classes` that answer its six questions about the nets, pins and controls of a board. In each call, `classes` must be the
-//! classes of the board. A setting is a set of enabled controls, and a safe setting enables at most one driver of each net, among other
-//! rules.
+//! Calls of `net_classes` that answer its six questions about the nets, pins and controls of a board. The classes of a board say what its
+//! nets, pins and controls can do in safe settings. In each call, `classes` must be the classes of the board. A setting is a set of enabled
+//! controls, and a safe setting enables at most one driver of each net, among other rules.
 ghost use Rattle.std.specs.Prelude.{◌≡◌, ◌≢◌, ◌↔◌, ◌<◌, length, IsTrue, MatchOption};
 ghost use Rattle.board_defs.specs.Pins.{IsCell, IsOnBoard};
 ghost use Rattle.board_defs.specs.Coverage.{AreTogether, ArePaired, IsCovered, IsReason, IsTestedDriver, IsTestedReceiver, IsUseful};

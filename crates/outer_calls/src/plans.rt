@@ -1,4 +1,5 @@
-//! Calls of `scan_planner` and `walk_test` that make the plan of a board's test, or its walking test, from a list of passes.
+//! Calls of `scan_planner` and `walk_test` that make the plan of a board's test, fill rows with a scan of this test, and make a board's
+//! walking test.
 ghost use Rattle.std.specs.Prelude.{◌≡◌, ◌<◌, ◌^◌, length, slice_get, IfOk};
 ghost use Rattle.board_defs.specs.Passes.{passes_of};
 ghost use Rattle.scan_planner.specs.Plans.{ArePlannable, FillsScan, IsPlanOf, IsRoom, scan_count};
@@ -22,8 +23,9 @@ pub fn plan(alloc: Global, board: &Board, passes: Vec<Setting>) -> Result<Plan, 
     Plan::new(alloc, board, passes)
 }
 
-/// Fills the rows with the bits of scan `k` of the plan's test, counted from 0, and returns the shape of the scan. The plan must be a plan
-/// of the board, and `k` must be below the number of scans. Each row must have room for an instruction scan and for a data scan.
+/// Fills the rows with the bits of scan `k` of the plan's test, counted from 0, and returns the shape of the scan: whether it is an
+/// instruction scan, and whether it compares bits. The plan must be a plan of the board, and `k` must be below the number of scans. Each
+/// row must have room for an instruction scan and for a data scan.
 pub fn fill(
     board: &Board,
     plan: &Plan,
@@ -46,8 +48,8 @@ pub fn fill(
     plan.fill(board, k, tdi, tdo, mask)
 }
 
-/// Returns the walking test of the board. It uses only the first of the passes, which must be the first pass of the board's test. If that
-/// test has no pass, the list must be empty.
+/// Returns the walking test of the board. It uses only the first of `passes`, which must be the first pass of the board's test. If that
+/// test has no pass, `passes` must be empty.
 pub fn walk(alloc: Global, board: &Board, passes: &[Setting]) -> Result<Walk, AllocError>
     requires { slice_get passes.now 0 ≡ slice_get (passes_of board.now) 0 }
     ensures { IfOk result (λ walk. IsWalkOf board.now walk) }

@@ -22,14 +22,14 @@ pub struct Files {
     pub nets: &'static str,
 }
 
-/// A board with a driver and a receiver, which two nets connect.
+/// A board with two devices, a driver with two outputs and a receiver with two inputs. Two nets connect them.
 pub const PAIR: Files = Files {
     chain: run_bench::CHAIN,
     nets: run_bench::NETS,
 };
 
-/// A board with a device that has two groups of drivers. Both groups drive net X, so no pass enables both groups, and no pass observes nets
-/// A and B together.
+/// A board with a device that has two control cells. Each cell enables a driver of net X and a driver of one other net, A or B. So no pass
+/// enables the drivers of both cells, and no pass observes nets A and B together.
 pub const GROUPS: Files = Files {
     chain: "DEVICE U1 TWO -\nDEVICE U2 RCV -\nDEVICE U3 RCV -\n",
     nets: "NET A U1.1 U2.1\nNET X U1.2 U1.3 U2.2\nNET B U1.4 U3.1\n",

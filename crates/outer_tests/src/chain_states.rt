@@ -6,7 +6,7 @@ use tap_defs::TapState::{
     SelectDR, SelectIR, ShiftDR, ShiftIR, TestLogicReset, UpdateDR, UpdateIR,
 };
 
-// A state, the next state for TMS 0, and the next state for TMS 1.
+// Each state, its next state for TMS 0, and its next state for TMS 1.
 static MOVES: [(TapState, TapState, TapState); 16] = [
     (TestLogicReset, RunTestIdle, TestLogicReset),
     (RunTestIdle, RunTestIdle, SelectDR),

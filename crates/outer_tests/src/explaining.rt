@@ -172,8 +172,7 @@ const GROUPS_PLACES: [&str; 32] = [
 // The places of the shorts of nets 0 and 1 of the board `GROUPS`.
 const GROUPS_SHORTS: &[u64] = &[20, 21, 22, 23];
 
-// The places of net 0's faults, and the four places of nets 0 and 2, which have no fault because the nets are not paired: no pass observes
-// both.
+// The places of net 0's faults, and the four places of nets 0 and 2, which have no fault because no pass observes both nets.
 const OF_NET_0: &[u64] = &[0, 1, 6, 7, 8, 9, 20, 21, 22, 23, 24, 25, 26, 27];
 
 const OF_NET_1: &[u64] = &[2, 3, 10, 11, 12, 13, 14, 15, 20, 21, 22, 23, 28, 29, 30, 31];
@@ -358,7 +357,8 @@ fn has(list: &[u64], number: u64) -> bool {
     list.iter().any(|one| *one == number)
 }
 
-// Returns whether the fault at a place explains a log. Returns `None` if the function `matches` and the method of `compared` disagree.
+// Returns whether the fault at a place explains a log. Returns false if the place has no fault, and `None` if the function `matches` and
+// the method `matches` of `compared` disagree. `compared` must belong to the same board.
 fn explains(tested: Tested<'_>, log: &Log, compared: &ComparedLog<'_>, place: u64) -> Option<bool>
     requires plan { IsPlanOf tested.board.now tested.plan.now }
     requires passes { tested.plan.now.passes ≡ passes_of tested.board.now }
@@ -378,8 +378,8 @@ fn explains(tested: Tested<'_>, log: &Log, compared: &ComparedLog<'_>, place: u6
     }
 }
 
-// Returns whether the faults at these places explain a log, and no other fault does. Returns false if `matches` and `matches_by` disagree
-// on any fault. `nets` must be the nets that differ in the log.
+// Returns whether the faults at these places explain a log, and no other fault does. Returns false if the function `matches` and the method
+// `matches` of `compared` disagree on any fault. `compared` must belong to the same board.
 fn only_these_explain(
     tested: Tested<'_>,
     log: &Log,
@@ -453,7 +453,8 @@ fn are_faults(
     Ok(true)
 }
 
-// Returns whether `diagnose` finds the faults at these places with this number of workers, from 1 to 64. Ignores the universe.
+// Returns whether `diagnose` finds the faults at these places, in this order, with this number of workers, from 1 to 64. The universe in
+// `tested` is not used.
 fn diagnosis_is(
     rt: &(impl Threads + Sync),
     alloc: Global,
@@ -475,7 +476,7 @@ fn diagnosis_is(
     are_faults(alloc, &faults, places, words)
 }
 
-// Returns whether the verdict that three workers find on a log has the faults at these places.
+// Returns whether the verdict that three workers find on a log has the faults at these places, in this order.
 fn verdict_is(
     rt: &(impl Threads + Sync),
     alloc: Global,
@@ -494,7 +495,8 @@ fn verdict_is(
     are_faults(alloc, verdict.faults.as_slice(), places, words)
 }
 
-// Checks the row of a log: whether the log passes, its suspects, and the faults that `diagnose` finds with 1, 2 and 64 workers.
+// Checks the answers for a log against its row `wanted`: whether the log passes, its suspects, and the faults that `diagnose` finds with 1,
+// 2 and 64 workers.
 fn log_holds(
     rt: &(impl Threads + Sync),
     alloc: Global,
@@ -528,7 +530,8 @@ fn log_holds(
     Ok(())
 }
 
-// Compares the answers of the calls that take a compared log or a test with its universe with the row of the log.
+// Checks the answers of two more kinds of calls against the row of the log: calls that take a compared log, and calls that take a test and
+// its universe.
 fn comparison_holds(
     rt: &(impl Threads + Sync),
     alloc: Global,

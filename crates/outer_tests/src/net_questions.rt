@@ -243,7 +243,7 @@ fn number(reason: Option<Reason>) -> u32 {
 }
 
 // Returns whether the board answers a question about nets correctly. Returns true for any other question. `classes` must be the classes of
-// the board.
+// the board, which say what its nets, pins and controls can do in safe settings.
 fn net_answers(board: &Board, classes: &Classes, question: Question) -> bool
     requires { AreClasses board.now classes.now }
 {

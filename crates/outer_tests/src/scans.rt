@@ -1,5 +1,5 @@
 // Tests of the plans and the walking tests of small boards. They compare the TDI, TDO and MASK bits of each scan. In each row of a walking
-// test, one net of the test carries 1 and its other nets carry 0. The scans are worked out by hand from the definitions.
+// test, one of the test's nets carries 1 and the other nets carry 0. The scans are worked out by hand from the definitions.
 ghost use Rattle.std.specs.Prelude.{◌≡◌, ◌<◌, IfOk};
 ghost use Rattle.board_defs.specs.Passes.{passes_of};
 ghost use Rattle.scan_planner.specs.Plans.{IsPlanOf, IsRoom, scan_count};
@@ -57,7 +57,7 @@ struct Planned {
     name: &'static str,
     files: Files,
     making: Making,
-    // The numbers of nets, each with the net's code.
+    // Pairs of the number of a net and the net's code.
     codes: &'static [(u32, u32)],
     rows: u64,
     scans: &'static [Scan],
@@ -147,7 +147,7 @@ static PLANS: [Planned; 5] = [
     },
 ];
 
-// Returns the bits of a row as a number, at most 2^64 - 1. Bit 0 of the row is the least significant bit.
+// Returns the bits of a row as a number, or 2^64 - 1 if the number is larger. Bit 0 of the row is the least significant bit.
 fn number(row: &Row) -> u64 {
     let count = row.len();
     let mut number = 0u64;

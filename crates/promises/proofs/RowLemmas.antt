@@ -9,11 +9,11 @@ use Rattle.bt_bits.specs.Hex.{digit_count, digit_bits, joined_bits, text_bits, c
 use Rattle.text_lines.specs.Words.{Word}
 use Rattle.response_log.specs.LogRows.{NumberedLine, bits_of_line, only_word}
 
--- there are no bits, or there are `n` bits
+-- `bits` is `None` or has `n` bits
 abbrev AreMany : ℕ → Option (List Bool) → Type 0
 AreMany n bits = IfSome bits (λ b. length b ≡ n)
 
--- If there are bits, there are four. This is a record so that a proof can go through the tests of a hexadecimal digit without naming the
+-- `bits` is `None` or has four bits. This is a record so that a proof can go through the tests of a hexadecimal digit without naming the
 -- cases that each test leaves.
 record AreFour (bits : Option (List Bool)) : Type 0 where
   four : AreMany 4 bits

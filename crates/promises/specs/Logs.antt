@@ -1,5 +1,4 @@
--- What it means that the lines of a text hold a log or a batch, and the promise that the program reads a log or a batch exactly from such
--- texts.
+-- When the lines of a text hold a log or a batch, and the promise that the program reads exactly such texts as a log or a batch.
 use Rattle.std.specs.Prelude.{◌≡◌, ◌↔◌, Bool, true, List, [], ◌∷◌, map, Some, Ok, codes}
 use Rattle.board_defs.specs.declared.board.RawBoard.{RawBoard}
 use Rattle.board_defs.specs.Pins.{data_bits}
@@ -15,19 +14,21 @@ use Rattle.btest_core.specs.BoardRead.{Denotes}
 use Rattle.commands.specs.LogRead.{test_blocks, test_log, walk_log}
 use Rattle.command_line.specs.Words.{Text}
 
--- The lines with words are these rows. A row is one word, whose hexadecimal digits have a bit for each position of a
--- data scan. There is a row for each SDR statement of these scans that compares, in the order of the statements.
+-- The lines with words are these rows. A row is one word, whose hexadecimal digits have a bit for each position of a data scan. There is a
+-- row for each SDR statement of these scans that compares bits, in the order of the statements.
 pub record HoldsLog (board : RawBoard) (scans : List RowScan) (text : Text) (rows : List (List Bool)) : Type 0 where
   pub lines : map (bits_of_line (data_bits board)) (row_lines text) ≡ map Some rows
   pub shape : HasShape board scans rows
 
--- The title names the board of the block. The lines below it, as a text of their own, hold a log of the board's test.
+-- The title is the word BOARD and the block's id, which satisfies the word rule (`is_word`). The lines below it, as a text of their own,
+-- hold a log of the board's test.
 pub record HoldsBoardBlock (board : RawBoard) (text : BlockText) (block : Block) : Type 0 where
   pub title : words_of text.title ≡ codes "BOARD" ∷ block.id ∷ []
   pub id : is_word block.id ≡ true
   pub log : HoldsLog board (svf_row_scans board) (own_text text) block.log
 
--- The text consists of lines without words, followed by these blocks. A block reaches from its title up to the next title.
+-- The text consists of lines without words, followed by these blocks. A block begins with its title and ends before the next title or at
+-- the end of the text.
 pub record HoldsBoardBlocks (board : RawBoard) (text : Text) (blocks : List Block) : Type 0 where
   pub front : List Text
   pub texts : List BlockText

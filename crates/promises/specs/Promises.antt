@@ -260,9 +260,8 @@ TellsUnread run =
     × Rose (run.old.unread file.name) (run.new.unread file.name) × AskedInTurn run (map (λ f. f.name) before ++ file.name ∷ []) × Notes run (read_line file.name)
     × ((held : Text → Option Text) → run.old.held ≡ Some held → (texts : List Text) × HoldsEach run.old.held before texts)
 
--- The status is WriteFault only if a write of the output failed. The notes then take the line for this. If the store
--- holds the command's texts, the run asked for each file once and in order, and the output took some first bytes of a
--- text that the files give.
+-- The status is WriteFault only if a write of the output failed. The notes then take the line for a failed write. If the store holds the
+-- command's texts, the run asked for each file once and in order, and the output took some first bytes of a text that the files give.
 abbrev pub TellsUnwritten : Run → Type 0
 TellsUnwritten run =
     run.status ≡ WriteFault → Rose run.old.unwritten run.new.unwritten × Notes run write_line
@@ -271,8 +270,8 @@ TellsUnwritten run =
     × ((text : Text) × GivesOutcome command texts (Ok text) × (count : ℕ)
     × PutsOut run (take count text)))
 
--- If memory ran out, the output took nothing, and the notes take the line for this. The run asked for some first files
--- of the command, each once and in order. They may include files after a file that is too long.
+-- At NoMemory, the output took nothing, and the notes take the line for lack of memory. The run asked for some first files of the command,
+-- each once and in order. They may include files after a file that is too long.
 abbrev pub TellsMemory : Run → Type 0
 TellsMemory run =
     run.status ≡ NoMemory → PutsNothing run × Notes run memory_line × ((command : Command) → HasWordsOf run command → (count : ℕ) × AskedInTurn run (take count (names_in_command command)))

@@ -56,18 +56,18 @@ abbrev pub desk_run : List (String Global) → Desk → Desk → Status → Run
 desk_run words old new status = run_of words (desk_ends old) (desk_ends new) status
 
 -- The limits on BSDL files and on workers are numbers here, although the reader of the words has names for them. The limits are promises of
--- the program, so changing a limit only in the reader breaks a proof here. The limit on the parts of a generated board has its name, and
--- samples fix it at 255.
+-- the program, so changing a limit only in the reader breaks a proof here. The limit on the parts of a generated board is the name
+-- `most_made` here, and samples fix it at 255.
 
--- these words, then a chain file and at most 255 BSDL files
+-- the words are `front`, then the names of a chain file and of at most 255 BSDL files
 abbrev pub ThenChain : List Text → ChainNames → List Text → Type 0
 ThenChain front names words = (words ≡ front ++ names.chain ∷ names.bsdl) × (length names.bsdl ≤ 255)
 
--- these words, then a chain file, a net file and at most 255 BSDL files
+-- the words are `front`, then the names of a chain file, of a net file and of at most 255 BSDL files
 abbrev pub ThenBoard : List Text → BoardNames → List Text → Type 0
 ThenBoard front names words = (words ≡ front ++ names.chain ∷ names.nets ∷ names.bsdl) × (length names.bsdl ≤ 255)
 
--- these words, then a file of response logs, a chain file, a net file and at most 255 BSDL files
+-- the words are `front`, then the names of a file of response logs, of a chain file, of a net file and of at most 255 BSDL files
 abbrev pub ThenLog : List Text → LogNames → List Text → Type 0
 ThenLog front names words = ThenBoard (front ++ names.log ∷ []) names.board words
 
@@ -100,7 +100,7 @@ AsksNothing run = (command : Command) → HasWordsOf run command → ⊥
 abbrev pub texts_called : List Text → List Wanted
 texts_called names = map (λ name. record { name = name; limit = 4194304 }) names
 
--- a file of response logs with at most 64 MiB, and then the files of its board
+-- the file of response logs, with at most 64 MiB, and then the files of its board
 abbrev pub logs_called : LogNames → List Wanted
 logs_called names = record { name = names.log; limit = 67108864 } ∷ texts_called (board_names names.board)
 

@@ -1,4 +1,4 @@
-// The promises of the program: first the promise of each command, and then the meaning of each status other than Done.
+// The promises of the program: the promise of each command, and the meaning of each status other than Done.
 ghost use Rattle.promises.specs.Runs.{desk_run, ends_of, run_of};
 ghost use Rattle.promises.specs.Promises.{DiagnosesBlocks, DiagnosesLog, FindsGroups, FindsOutcome, ListsCover, ListsDevice, RestsOnBlocks, RestsOnFiles, RestsOnLog, RestsOnWalkLog, SumsUp, TellsFault, TellsLong, TellsMemory, TellsUnread, TellsUnwritten, TellsUsage, TestsBoard, TestsChain, TestsIdents, WalksBoard};
 
@@ -23,7 +23,7 @@ impl Desk {
         self.run(rt, words, gate)
     }
 
-    /// Runs a command line. Promise: `ident` tests whether each part's code fits the pattern of the part.
+    /// Runs a command line. Promise: the text of `ident` tests whether each part's identification code fits the pattern of the part.
     pub fn ident<R: Threads + Sync, G: Gate>(
         &mut self,
         rt: &R,
@@ -60,7 +60,7 @@ impl Desk {
         self.run(rt, words, gate)
     }
 
-    /// Runs a command line. Promise: `svf` tests the board that its files denote.
+    /// Runs a command line. Promise: the text of `svf` tests the board that its files denote.
     pub fn svf<R: Threads + Sync, G: Gate>(&mut self, rt: &R, words: &[String], gate: &G) -> Status
         ensures { TestsBoard (desk_run words.now self.old self.new result) }
     {

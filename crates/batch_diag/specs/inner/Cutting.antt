@@ -14,7 +14,7 @@ use Rattle.batch_diag.specs.Batch.{BlockLines, blocks_of, up_to_title}
 abbrev pub rows_from : ℕ → List ℕ → List NumberedLine
 rows_from n text = filter has_words (numbered_lines n (slice_split is_newline text))
 
--- true if the line begins with a byte with which no title can begin
+-- true if the first byte of the line is neither `B` nor blank; such a line is not a title
 abbrev pub begins_row : List ℕ → Bool
 begins_row [] = false
 begins_row (b ∷ bs) = not (b == 66) && not (is_line_blank b)

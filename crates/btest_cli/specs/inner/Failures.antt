@@ -1,4 +1,4 @@
--- The status and the line for a command that did not write its whole text.
+-- The status of a run that did not read all its texts or did not write its whole text, and the line that says why.
 use Rattle.std.specs.Prelude.{◌≡◌, ℕ, take, Result, Ok, Err}
 use Rattle.bt_base.specs.Counts.{Rose}
 use Rattle.bt_base.specs.Puts.{Shown, Takes}

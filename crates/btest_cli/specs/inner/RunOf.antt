@@ -1,4 +1,4 @@
--- A run of a command, as a relation between the states before and after the run.
+-- A run of a command, as a relation between the states before and after the run and its status.
 use Rattle.std.specs.Prelude.{◌≡◌, ◌≢◌, ℕ, List}
 use Rattle.bt_base.specs.Counts.{Rose}
 use Rattle.bt_base.specs.Puts.{Shown}

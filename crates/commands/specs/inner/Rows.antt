@@ -6,7 +6,7 @@ use Rattle.tap_defs.specs.declared.scan.StoredRows.{StoredRows}
 use Rattle.plan_tables.specs.declared.tables.PlanTables.{PlanTables}
 use Rattle.scan_planner.specs.Plans.{FillsScan}
 
--- `Fits` holds for the room of each of the three rows
+-- `Fits` holds for the room of each of the three rows; the room of a row is the number of bits for which it has memory
 pub record EachStoredHasRoom (Fits : ℕ → Type 0) (rows : StoredRows) : Type 0 where
   pub tdi : Fits rows.tdi.room
   pub tdo : Fits rows.tdo.room

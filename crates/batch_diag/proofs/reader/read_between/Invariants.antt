@@ -4,7 +4,7 @@ use Rattle.response_log.specs.LogRows.{HasSize}
 use Rattle.batch_diag.specs.inner.Reading.{said_between}
 use Rattle.batch_diag.proofs.reader.read_between.Given as goal
 
--- `found` has the blocks of the range before block `i`
+-- `found` has the blocks `first..i` with their logs
 abbrev pub invariant-loop-i : goal.invariant-loop-i
 invariant-loop-i l = record {
   said : said_between l.reading l.first l.i ≡ Ok l.found.items;

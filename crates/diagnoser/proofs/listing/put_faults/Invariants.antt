@@ -3,7 +3,7 @@ use Rattle.diagnoser.specs.DiagText.{fault_line}
 use Rattle.line_printer.proofs.PutLemmas.{Completes, texts_after}
 use Rattle.diagnoser.proofs.listing.put_faults.Given as goal
 
--- the lines that were written, followed by the lines of the remaining faults, are all lines
+-- The lines written so far, followed by the lines of the remaining faults, are the lines of all faults.
 abbrev pub invariant-loop-fault : goal.invariant-loop-fault
 invariant-loop-fault g l =
     Completes (g.K.Sink.shown l.fn.out) (g.K.Sink.shown l.out)
