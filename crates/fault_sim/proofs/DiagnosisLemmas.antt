@@ -26,7 +26,7 @@ use Rattle.tap_defs.proofs.board.SingleLemmas.{single_observable, single_no_open
 use Rattle.tap_defs.proofs.board.ResponseLogLemmas.{explained_by_rows, logs_agree, some_log, own_in_turn}
 use Rattle.fault_sim.specs.Diagnosis.{Picks, IsDiagnosis}
 
--- some boolean test decides the statement
+-- there is a boolean that is true if and only if the statement holds
 abbrev IsDecided : Type 0 → Type 0
 IsDecided P = (t : Bool) × Decides t P
 
@@ -62,7 +62,7 @@ module _ {A : Type 0} (P : A → Type 0) where
       by_test true d picks = inl (filter test xs, d.0 refl, refl, picks)
       by_test false d picks = inr (not_from_Decides false d refl, picks)
 
--- some test decides whether bits x and y agree; if a bit is expected, x and y agree only if they are equal
+-- There is a boolean that says whether bits x and y agree. If a bit is expected, x and y agree only if they are equal.
 agree_at : (o : Option Bool) (x y : Bool) → IsDecided (AgreeAt o x y)
 agree_at None x y = (true, (λ e. tt, λ h. refl))
 agree_at (Some v) x y = (beq x y, booleans_Decides x y)

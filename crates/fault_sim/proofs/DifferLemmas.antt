@@ -117,7 +117,7 @@ not_among n [] e (inl has) = absurd (contains_has [] n has)
 not_among n [] e (inr p) = p
 not_among n (m ∷ nets) e s = absurd (omega (arith, e))
 
--- P is any statement that is equivalent to `ShowsAll`. It holds exactly if no net differs.
+-- P is any statement that holds if and only if the log shows the expected bits on every net. It holds if and only if no net differs.
 pub none_decides : (board : RawBoard) (plan : PlanTables) (log : List (List Bool)) (nets : List ℕ)
     → AreDiffering board plan log nets → (P : Type 0) → (P → ShowsAll board plan None log)
     → (ShowsAll board plan None log → P) → (r : Bool) → r ≡ (length nets == 0) → Decides r P

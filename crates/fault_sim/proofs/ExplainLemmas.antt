@@ -223,7 +223,7 @@ others_show board plan log single n within show a b x less =
     (place_of_driver (driver_in plan (get_or plan.passes x []) n)))
     (plain_effect board plan (get_or plan.passes x []) single n a b) (show x less n within)
 
--- if only the fault's own nets differ, the log shows the fault on all nets exactly if it shows the fault on these nets
+-- If only the fault's own nets differ, the log shows the fault on all nets if and only if it shows the fault on these nets.
 module _ (board : RawBoard) (plan : PlanTables) (log : List (List Bool)) (single : Single) (a b : ℕ)
     (first : a ≡ first_net single) (second : b ≡ second_net single) (nets : List ℕ)
     (differ : AreDiffering board plan log nets) where

@@ -104,7 +104,7 @@ module _ (board : RawBoard) (rules : IsBoard board) (plan : PlanTables) (p : IsP
       ctl_is : d.ctl ≡ option_map (λ (control : Control). let c : Ctl = record { part = at.part; cell = control.cell } in c) entry.ctl
       ctl_is = sym (ap (λ (y : NetDriver). y.ctl) on.driver_is)
 
-      -- the pass observes the net exactly if some cell reads a pin of the net other than the driver's pin
+      -- the pass observes the net if and only if a pin other than the driver's pin has a compared cell
       pub observing_is : observing_driver board (holds pass) net ≡ cond (is_read_beside (plan_readers plan n) d) (Some d.place) None
       observing_is =
           ap (λ (b : Bool). cond b None (observing_driver_by board net (first_enabled board (holds pass) 0 net.pins))) unguarded
@@ -165,7 +165,7 @@ module _ (board : RawBoard) (rules : IsBoard board) (plan : PlanTables) (p : IsP
                 ap (λ (b : Bool). cond controls (cond b (not off) off) safe_value) (held_own ∙ e)
                 ∙ sym quiet_is
 
-        -- the driver's cell carries the net's code exactly if the pass observes the net through this driver
+        -- In a row, the driver's cell carries the row's bit of the net's code if and only if the pass observes the net by this driver.
         data_is : data_bit board row at.part t.device entry.num
             ≡ data_observed (row.carried n) d.place (observing_driver board (holds pass) net)
         data_is =
@@ -277,7 +277,8 @@ module _ (board : RawBoard) (rules : IsBoard board) (plan : PlanTables) (p : IsP
             ∙ feeds_is
             ∙ ap (λ (b : Bool). unless_off (cond (is_own d.own d.ctl) net.pull None) b) bit_is
 
-    -- in row j, the pass drives the net to the bit that the net's feed has in this row
+    -- In row j, the pass drives the net to bit j of the net's feed. The feed has the bits that the enabled driver gives the net in the rows
+    -- of the pass.
     pub driven_is : (j : ℕ) → driven_to board (code_row board plan.passes pass j) (Some net) ≡ feed_bit (net_feed board plan pass n) j
     driven_is j =
         by_driver (driver_in plan pass n) refl first_is

@@ -1,4 +1,4 @@
--- Lemmas about the kept passes of a test and about the results of look-ups in them.
+-- Lemmas about the kept passes of a test, which store rows and drivers of passes for many logs, and about the results of look-ups in them.
 use Rattle.std.proofs.Common.{◌≡◌, ℕ, ◌<◌, Bool, true, false, ◌&&◌, cond, List, [], length, get_or, Option, Some, None, refl, subst}
 use Rattle.std.specs.Prelude.{option_map, slice_get}
 use Rattle.std.proofs.lemmas.Bool.{both_ways}
@@ -53,7 +53,7 @@ module _ (plan : PlanTables) (pass : List Ctl) (n : ℕ) where
       by_driver None = refl
       by_driver (Some d) = refl
 
-  -- the cell of the driver that the pass enables on the net carries the net's code exactly if the pass observes the net
+  -- The pass observes the net if and only if the cell of the driver that it enables on the net carries the net's code.
   pub observes_is : observes_coded (enabled_driver plan pass n) ≡ observes_in plan pass n
   observes_is = by_driver (driver_in plan pass n)
     where
@@ -65,7 +65,7 @@ module _ (plan : PlanTables) (pass : List Ctl) (n : ℕ) where
       by_driver None = refl
       by_driver (Some d) = by_code (is_read_beside (plan_readers plan n) d) (code_in plan n) (steady_in plan pass d)
 
--- two nets are paired exactly if some pass observes both
+-- `paired_in` is true if and only if some pass observes both nets
 module _ (plan : PlanTables) (a b : ℕ) where
   pub paired_at : (x : ℕ) → x < length plan.passes
       → (observes_in plan (get_or plan.passes x []) a

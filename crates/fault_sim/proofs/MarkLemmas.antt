@@ -1,4 +1,5 @@
--- Lemmas about marks of digits. A net shows the expected bits if none of the digits of its cells is marked.
+-- Lemmas about marks of the hexadecimal digits of a log's rows. A digit is marked if, in some row, a compared bit of this digit is not the
+-- expected bit. A net has the expected bits if none of the digits of its cells is marked.
 use Rattle.std.proofs.Common.{◌≡◌, ◌⊎◌, inl, inr, ℕ, suc, ◌+◌, ◌*◌, ◌/◌, ◌%◌, ◌<◌, ◌≤◌, ◌==◌, Bool, true, false, not, ◌||◌, List, [], length, get_or, set, min, max, Option, Some, None, is_some, unwrap_or, refl, sym, ap, ◌∙◌, subst, arith}
 use Rattle.std.specs.Prelude.{slice_get}
 use Rattle.std.specs.List.{list_all}

@@ -8,7 +8,7 @@ use Rattle.fault_sim.specs.declared.feed.Feed.{Feed}
 use Rattle.fault_sim.specs.declared.effect.Effect.TheVariants.{AtPin, Shorted}
 use Rattle.fault_sim.specs.Effects.{feed_bit, effect_bit}
 
--- the feed of a net with code 2, which carries 0 in row 0 and 1 in row 1
+-- the feed of a net with code 2, that is, the bits that the net gets from its driver: 0 in row 0 and 1 in row 1
 abbrev driven : Feed
 driven = record { source = Code 2; off = None }
 

@@ -1,4 +1,4 @@
--- Lemmas which say that a log shows the effects of a fault exactly if each compared cell has the bit that the fault gives it.
+-- Lemmas which say that a log shows the effects of a fault if and only if each compared cell has the bit that the fault gives it.
 use Rattle.std.proofs.Common.{◌≡◌, ◌≢◌, ◌⊎◌, inl, inr, ℕ, zero, suc, ◌+◌, ◌-◌, ◌*◌, ◌<◌, ◌≤◌, ◌==◌, Bool, true, false, cond, not, ◌&&◌, ◌||◌, List, [], length, get_or, Option, Some, None, refl, sym, ap, ◌∙◌, subst, arith}
 use Rattle.std.specs.Prelude.{slice_get, option_and_then, All}
 use Rattle.std.specs.List.{list_all}
@@ -74,7 +74,7 @@ row_of (suc passes) width y less = by_side (cases_lt y (passes * width)) (row_of
       row_is = omega (arith, above);
     }
 
--- `reader` is a cell that reads the net on a pin other than the enabled driver's pin. Row j of the pass compares this cell with the bit of
+-- `reader` is a compared cell of the net on a pin other than the enabled driver's pin. Row j of the pass compares this cell with the bit of
 -- the net's code.
 pub record ComparedCell (board : RawBoard) (plan : PlanTables) (pass : List Ctl) (j n : ℕ) (net : Net) (reader : ReaderCell) : Type 0 where
   pub part : ℕ
@@ -432,7 +432,7 @@ module _ (board : RawBoard) (rules : IsBoard board) (plan : PlanTables) (p : IsP
       by_driver pass stands v is_v None e = tt
       by_driver pass stands v is_v (Some d) e = λ j less. cells_are_shown x pass stands j less shows n v is_v d e
 
--- Each cell that reads a net has a position in a data scan. No cell reads a net whose number is past the last net.
+-- The position of each compared cell of net n is within a data scan. If the board has no net n, there is no such cell.
 pub readers_inside : (board : RawBoard) → IsBoard board → (plan : PlanTables) → IsPlanOf board plan
     → (n : ℕ) → All (λ r. r.position < data_bits board) (plan_readers plan n)
 readers_inside board rules plan p n = by_side (cases_lt n (length plan.nets.readers))

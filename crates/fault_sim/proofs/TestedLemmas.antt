@@ -44,7 +44,7 @@ use Rattle.fault_sim.specs.inner.Tested.{coded_nets, observes_by, observes_in, p
 use Rattle.fault_sim.proofs.FeedLemmas.{drivers_are, readers_are, first_is, observing_is as observing_here}
 
 module _ (plan : PlanTables) (n : ℕ) where
-  -- the places of the pins that a pass marks
+  -- the places of the pins that a pass tests, which are the pins whose flags `marked_by` sets
   abbrev marks_by : Option NetDriver → List ℕ
   marks_by None = []
   marks_by (Some d) = cond (is_read_beside (plan_readers plan n) d) (d.place ∷ map (λ (r : ReaderCell). r.place) (plan_readers plan n)) []
@@ -105,7 +105,7 @@ module _ (board : RawBoard) (rules : IsBoard board) (plan : PlanTables) (p : IsP
           cc bad
 
   module _ (x : ℕ) (pass : List Ctl) (stands : slice_get plan.passes x ≡ Some pass) where
-    -- the pass enables the driver of the pin at this place, and some cell reads another pin of the net
+    -- the pass enables the driver of the pin at this place, and another pin of the net has a compared cell
     pub record ObservedBy (place : ℕ) : Type 0 where
       pub driver : NetDriver
       pub enabled : driver_in plan pass n ≡ Some driver
@@ -203,7 +203,7 @@ module _ (board : RawBoard) (rules : IsBoard board) (plan : PlanTables) (p : IsP
       by_at None a e = cc e
       by_at (Some at) a e = by_device at a e (device_at board at.part) refl e
 
-  -- the flag of a pin is set exactly if the pin is tested
+  -- the flag of a pin is set if and only if the pin is tested
   module _ (are : ArePasses board plan.passes) (place : ℕ) (within : place < length net.pins) where
     abbrev flags : List Bool
     flags = tested_flags plan (length net.pins) n
@@ -462,7 +462,7 @@ module _ (board : RawBoard) (rules : IsBoard board) (plan : PlanTables) (p : IsP
         each : (n : ℕ) (net : Net) → slice_get board.nets n ≡ Some net → nat_lt 0 (code_in plan n) ≡ is_covered board net
         each n net e = ap (λ (k : ℕ). nat_lt 0 k) (p.codes_are n net e) ∙ above (is_observed board plan.passes net) _ ∙ observed n net e
 
-  -- two different nets are paired exactly if some pass of the plan observes both
+  -- two different nets are paired if and only if some pass of the plan observes both
   pub paired_in_is : (a b : ℕ) (one two : Net) → slice_get board.nets a ≡ Some one
       → slice_get board.nets b ≡ Some two → a ≢ b → paired_in plan a b ≡ are_paired board one two
   paired_in_is a b one two ea eb differ = Rattle.std.specs.Cmp.both_ways (paired_in plan a b) (are_paired board one two) to from

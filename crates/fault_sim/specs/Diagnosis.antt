@@ -12,8 +12,8 @@ abbrev pub Picks : {A : Type 0} → (A → Type 0) → List A → List A → Typ
 Picks P [] picked = picked ≡ []
 Picks {A} P (x ∷ xs) picked = ((rest : List A) × P x × (picked ≡ x ∷ rest) × Picks P xs rest) ⊎ ((P x → ⊥) × Picks P xs picked)
 
--- `pass` is true exactly if the log has the shape of the board's test and every compared bit is the expected bit. `faults` are the single
--- faults of the board that explain the log, in the order of the list `singles board`.
+-- `pass` is true if and only if the log has the shape of the board's test and every compared bit is the expected bit. `faults` are the
+-- single faults of the board that explain the log, in the order of the list `singles board`.
 pub record IsDiagnosis (board : RawBoard) (log : List (List Bool)) (pass : Bool) (faults : List Single) : Type 0 where
   pub passes : Decides pass (IsExpected board (svf_row_scans board) log)
   pub list : Picks (λ single. Explains board single log) (singles board) faults

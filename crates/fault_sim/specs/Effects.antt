@@ -78,8 +78,8 @@ steady_in plan pass d =
     cond (holds pass d.own) (not (slice_index_or plan.quiet.bits d.position false))
     (slice_index_or plan.quiet.bits d.position false)
 
--- The bits of the cell of driver d, which a pass enables on net n. If some cell reads another pin of the net, the pass observes the net,
--- and the driver's cell carries the net's code. Otherwise the driver's cell has the same bit in all rows.
+-- The bits of the cell of driver d, which a pass enables on net n. If another pin of the net has a compared cell, the pass observes the
+-- net, and the driver's cell carries the net's code. Otherwise the driver's cell has the same bit in all rows.
 abbrev pub source_in : PlanTables → List Ctl → ℕ → NetDriver → Source
 source_in plan pass n d = cond (is_read_beside (plan_readers plan n) d) (Code (code_in plan n)) (Fixed (steady_in plan pass d))
 
@@ -105,7 +105,7 @@ abbrev pub fed_net : RawBoard → PlanTables → List Ctl → ℕ → FedNet
 fed_net board plan pass n = record { feed = net_feed board plan pass n; pull = pull_in board n }
 
 -- The effect of an open pin on its net. If the pass enables the driver of this pin, all compared cells of the net have the bit to which the
--- net is pulled, or `value` if the net has no pull. Otherwise only the cells that read this pin are affected. They have the bit `value`.
+-- net is pulled, or `value` if the net has no pull. Otherwise only the compared cells of this pin are affected. They have the bit `value`.
 abbrev pub open_effect : Option ℕ → ℕ → Bool → Option Bool → Effect
 open_effect None place value pull = AtPin place value
 open_effect (Some driver) place value pull = cond (driver == place) (Constant (unwrap_or pull value)) (AtPin place value)

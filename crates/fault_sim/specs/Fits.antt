@@ -1,4 +1,5 @@
--- The conditions under which a log shows the effect of a single fault.
+-- The conditions under which a log shows the effect of a single fault. A log shows an effect on a net if the net's compared cells have, in
+-- the log, the bits that the effect gives them.
 use Rattle.std.specs.Prelude.{◌≡◌, ℕ, ◌+◌, ◌*◌, ◌<◌, ◌==◌, Bool, true, ◌||◌, List, [], length, Option, Some, None, slice_index_or}
 use Rattle.std.specs.List.{list_all}
 use Rattle.board_defs.specs.declared.board.Ctl.{Ctl}

@@ -1,4 +1,5 @@
-// A board's test, and a log of the test. The test can keep rows and drivers of its passes, so that many logs share them.
+// A board's test, and a log of the test. The test can have kept passes. They store rows and drivers of its first
+// passes, so that many logs can share them.
 ghost use Rattle.std.specs.Prelude.{◌≡◌, ◌<◌, length};
 ghost use Rattle.board_defs.specs.Passes.{passes_of};
 ghost use Rattle.scan_planner.specs.Plans.{IsPlanOf};
@@ -62,7 +63,8 @@ impl<'a> BoardTest<'a> {
         }
     }
 
-    /// Returns this test with `kept` as its kept passes. `kept` must hold the first passes of this test, in order.
+    /// Returns this test with `kept` as its kept passes. Item `x` of `kept` must have rows and drivers of pass `x` of
+    /// this test.
     pub fn with_kept(&self, kept: &'a [KeptPass]) -> BoardTest<'a>
         requires rows { KeepRows self.now.board self.now.plan kept.now }
         requires drivers { KeepDrivers self.now.plan kept.now }
@@ -97,7 +99,8 @@ impl<'a> BoardTest<'a> {
         self.planned.plan()
     }
 
-    /// Returns the kept passes.
+    /// Returns the stored rows and drivers of the first passes of the plan, one item for each of these passes. The list
+    /// may be empty.
     pub(crate) fn kept(&self) -> &'a [KeptPass]
         ensures rows { KeepRows self.now.board self.now.plan result.now }
         ensures drivers { KeepDrivers self.now.plan result.now }
@@ -114,7 +117,7 @@ impl<'a> BoardTest<'a> {
         LoggedTest { test, log }
     }
 
-    /// Returns pass `x`. `x` must be below the number of passes.
+    /// Returns pass `x`, counted from 0. `x` must be below the number of passes.
     pub(crate) fn pass(&self, x: u32) -> TestPass<'a>
         requires { x < length self.now.plan.passes }
         ensures { result ≡ planned_pass self.now x }
@@ -178,7 +181,7 @@ impl<'a> LoggedTest<'a> {
         self.log
     }
 
-    /// Returns pass `x` of the log. `x` must be below the number of passes.
+    /// Returns pass `x` of the log, counted from 0. `x` must be below the number of passes.
     pub(crate) fn pass(&self, x: u32) -> LoggedPass<'a>
         requires { x < length self.now.test.plan.passes }
         ensures { result ≡ pass_of_log self.now x }

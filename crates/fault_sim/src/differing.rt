@@ -34,8 +34,9 @@ impl<'a> Model for ComparedLog<'a> {
 }
 
 impl<'a> LoggedTest<'a> {
-    // Returns whether net `n` shows the expected bits in every pass. `marks` must be the marks of the log's digits. If none of the digits
-    // of the net's cells is marked, no cell is checked.
+    // Returns whether net `n` has the expected bits in every pass. `marks` must have an item for each hexadecimal digit
+    // of a row. If an item is 0, every compared bit of its digit must be the expected bit in all rows of the log. If
+    // the items of all digits of the net's cells are 0, the result is true, and no cell is checked.
     fn shows_expected(&self, marks: &[u8], n: u32) -> bool
         requires { AreMarks self.now.test.board self.now.test.plan self.now.log
             (length self.now.test.plan.passes) marks.now }
@@ -49,8 +50,8 @@ impl<'a> LoggedTest<'a> {
         self.shows_on(None, n)
     }
 
-    // Returns the nets that differ in the log, in net order. Reads each row once, and then only the cells of nets that may differ. These are
-    // the nets that differ and few others.
+    // Returns the nets that differ in the log, in net order. Reads each row once. Then reads only the cells of nets
+    // that may differ, which are the nets that differ and few others.
     fn differing(&self, alloc: Global) -> Result<Vec<u32>, AllocError>
         ensures { IfOk result
             (λ nets. AreDiffering self.now.test.board self.now.test.plan self.now.log nets.items) }

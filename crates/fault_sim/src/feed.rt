@@ -158,8 +158,8 @@ pub fn net_fed_by(driver: Option<EnabledDriver>, pull: Option<bool>) -> FedNet
     }
 }
 
-/// Returns whether a pass observes the net on which it enables `driver`. The pass observes the net exactly if the driver's cell has the
-/// bits of the net's code. Returns false if there is no driver.
+/// Returns whether a pass observes the net on which it enables `driver`. The pass observes the net if and only if the
+/// driver's cell has the bits of the net's code. Returns false if there is no driver.
 pub fn observes(driver: Option<EnabledDriver>) -> bool
     ensures { result ≡ observes_coded driver }
 {

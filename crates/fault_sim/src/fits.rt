@@ -70,8 +70,8 @@ fn cells_show(
 }
 
 impl<'a> NetRows<'a> {
-    // Returns whether all cells have the bits of an effect in all rows. The expected bits are the bits of `code`. Cells that read the pin
-    // at the driver's place are not checked.
+    // Returns whether all cells have the bits of an effect in all rows. The expected bits are the bits of `code`.
+    // `driver` is the place of the enabled driver's pin. Cells that read this pin are not checked.
     fn show(&self, code: u32, effect: Effect, driver: u32) -> bool
         ensures { IsTrue result
             ↔ ShowRows self.now.log self.now.first self.now.width code self.now.readers effect
@@ -108,8 +108,9 @@ pub fn net_count(board: &Board) -> u32
 }
 
 impl<'a> LoggedPass<'a> {
-    // Returns whether this pass of the log shows an effect on a net. `driver` is the place of the enabled driver's pin, if the pass enables
-    // a driver on the net.
+    // Returns whether this pass of the log shows an effect on a net, that is, whether the net's compared cells have the
+    // bits that the effect gives them. `driver` is the place of the enabled driver's pin, if the pass enables a driver
+    // on the net.
     fn shows_effect(&self, effect: Effect, driver: Option<u32>, net: u32) -> bool
         ensures { IsTrue result
             ↔ ShowsEffect self.now.logged.test.plan self.now.logged.log self.now.number net effect
@@ -118,7 +119,8 @@ impl<'a> LoggedPass<'a> {
         self.net_rows(net).show_by(self.code(net), effect, driver)
     }
 
-    /// Returns whether this pass of the log shows the effect of a fault on a net. Without a fault, checks for the expected bits.
+    /// Returns whether this pass of the log shows the effect of a fault on a net, that is, whether the net's compared
+    /// cells have the bits that the fault gives them. Without a fault, checks for the expected bits.
     pub fn shows(&self, fault: Option<Single>, net: u32) -> bool
         ensures { IsTrue result
             ↔ Shows self.now.logged.test.board self.now.logged.test.plan fault self.now.logged.log

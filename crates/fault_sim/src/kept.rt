@@ -24,7 +24,8 @@ pub struct ComparedRow {
     pub mask: Row,
 }
 
-/// A kept pass: its first rows, and the drivers that it enables on the first nets.
+/// A kept pass. Item `j` of `rows` is row `j` of the pass. Item `n` of `drivers` is the driver that the pass enables on
+/// net `n`, or `None` if it enables none or the net is guarded.
 #[derive(Drop)]
 pub struct KeptPass {
     pub rows: Items<ComparedRow>,
@@ -67,7 +68,7 @@ impl<'a> TestPass<'a> {
         Ok(rows)
     }
 
-    // Returns the driver that the pass enables on each of the first `nets` nets.
+    // Returns, for each of the first `nets` nets, the driver that the pass enables on the net, if there is one.
     fn drivers_of(&self, alloc: Global, nets: u32) -> Result<Vec<Option<EnabledDriver>>, AllocError>
         ensures { IfOk result
             (λ drivers. AreDrivers self.now.test.plan (controls_of self.now) drivers.items) }

@@ -1,4 +1,5 @@
-//! Laws of a board's places and of diagnoses. Each law is the contract of a function that does nothing.
+//! Laws of a board's places and of diagnoses. A place is the number of a possible single fault. Each law is the
+//! contract of a function that does nothing.
 ghost use Rattle.std.specs.Prelude.{◌≡◌, ◌↔◌, Bool, List, filter, IsTrue};
 ghost use Rattle.board_defs.specs.declared.board.RawBoard.{RawBoard};
 ghost use Rattle.board_defs.specs.declared.fault.Single.{Single};

@@ -50,8 +50,8 @@ impl<'a> LoggedPass<'a> {
         );
     }
 
-    // Like `mark_by`, but takes the expected bits of row `j` from the kept rows. If row `j` is not kept, fills `spare` with these bits.
-    // `spare` must have room for a data scan.
+    // Like `mark_by`, but takes the expected bits of row `j` from the stored rows of the pass. If row `j` is not
+    // stored, fills `spare` with these bits. `spare` must have room for a data scan.
     fn mark_row(&self, marks: &mut [u8], spare: &mut ComparedRow, j: u32)
         requires row { j < self.now.logged.test.plan.width }
         requires count { length marks.old ≡ digit_count (data_bits self.now.logged.test.board) }
@@ -69,8 +69,8 @@ impl<'a> LoggedPass<'a> {
         }
     }
 
-    // Marks each digit in which a compared bit of some row of the pass is not the expected bit. `spare` is a buffer for rows that are not
-    // kept, and must have room for a data scan. `marks` must have one item for each digit of a row.
+    // Marks each digit in which a compared bit of some row of the pass is not the expected bit. `spare` is a buffer for
+    // rows that are not stored, and must have room for a data scan. `marks` must have one item for each digit of a row.
     fn mark(&self, marks: &mut [u8], spare: &mut ComparedRow)
         requires count { length marks.old ≡ digit_count (data_bits self.now.logged.test.board) }
         requires room { HasScanRoom self.now.logged.test.board spare.old }

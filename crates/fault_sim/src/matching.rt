@@ -53,8 +53,10 @@ fn are_of(nets: &[u32], a: u32, b: u32) -> bool
 }
 
 impl<'a> LoggedTest<'a> {
-    /// Does nothing. Its contract states when the log has the expected bits, and when a single fault explains the log, by what the nets show
-    /// in each pass.
+    /// Does nothing. Its contract states two facts. Every compared bit of the log is the expected bit if and only if
+    /// the compared cells of every net have the expected bits in every pass of the log. A single fault explains the log
+    /// if and only if the compared cells of every net have, in every pass of the log, the bits that the fault gives
+    /// them.
     pub(crate) fn laws(&self)
         ensures expected { IsExpected self.now.test.board (svf_row_scans self.now.test.board)
             self.now.log ↔ ShowsAll self.now.test.board self.now.test.plan None self.now.log }
@@ -71,7 +73,7 @@ impl<'a> LoggedTest<'a> {
         board_law::expected_bits();
     }
 
-    /// Like the function `is_pass`, for this test and log.
+    /// Like the function `is_pass`, but takes the board, the plan and the log from this value.
     pub fn is_pass(&self) -> bool
         ensures { IsTrue result
             ↔ IsExpected self.now.test.board (svf_row_scans self.now.test.board) self.now.log }
@@ -80,7 +82,7 @@ impl<'a> LoggedTest<'a> {
         self.shows_all(None)
     }
 
-    /// Like the function `matches`, for this test and log.
+    /// Like the function `matches`, but takes the board, the plan and the log from this value.
     pub fn matches(&self, fault: Single) -> bool
         requires { IsSingle self.now.test.board fault }
         ensures { IsTrue result ↔ Explains self.now.test.board fault self.now.log }
@@ -94,8 +96,9 @@ impl<'a> LoggedTest<'a> {
 }
 
 impl<'a> ComparedLog<'a> {
-    /// Like the function `matches`, for this test and log. Only the cells of the fault's own nets need a check, since the nets that differ are
-    /// known.
+    /// Like the function `matches`, but takes the board, the plan and the log from this value. Checks no cell if some
+    /// net that differs in the log is not a net of the fault. Otherwise, checks only the cells of the fault's nets,
+    /// since the other nets have the expected bits.
     pub fn matches(&self, fault: Single) -> bool
         requires { IsSingle self.now.test.board fault }
         ensures { IsTrue result ↔ Explains self.now.test.board fault self.now.log }

@@ -1,4 +1,5 @@
-// The passes of a board's test, and the passes of a log of the test.
+// The passes of a board's test, and the passes of a log of the test. A kept pass stores rows and drivers of a pass, so
+// that many logs can share them.
 ghost use Rattle.std.specs.Prelude.{◌≡◌, ◌*◌, ◌<◌, ◌^◌, ◌&&◌, [], length, slice_index_or};
 ghost use Rattle.board_defs.specs.Passes.{passes_of};
 ghost use Rattle.scan_planner.specs.Plans.{IsPlanOf};
@@ -38,7 +39,8 @@ impl<'a> Model for PassDrivers<'a> {
 }
 
 impl<'a> PassDrivers<'a> {
-    /// Returns pass `x` of a plan. `x` must be below the number of passes, and `kept` must be kept passes of this plan.
+    /// Returns pass `x` of a plan, counted from 0. `x` must be below the number of passes, and `kept` must be kept
+    /// passes of this plan.
     pub fn of(plan: &'a Plan, kept: &'a [KeptPass], x: u32) -> PassDrivers<'a>
         requires kept { KeepDrivers plan.now kept.now }
         requires pass { x < length plan.now.passes }
@@ -150,7 +152,8 @@ impl<'a> TestPass<'a> {
         pull_in(self.board(), net)
     }
 
-    /// Returns a net in this pass: the feed of the net's enabled driver, and the net's pull.
+    /// Returns a net in this pass: its feed, which has the bits that the net gets from its enabled driver, and its
+    /// pull.
     pub fn fed(&self, net: u32) -> FedNet
         ensures { result
             ≡ fed_net self.now.test.board self.now.test.plan (controls_of self.now) net }
@@ -158,7 +161,8 @@ impl<'a> TestPass<'a> {
         net_fed_by(self.driver(net), self.pull(net))
     }
 
-    /// Returns the kept rows of the pass, which are the first rows of the pass.
+    /// Returns the stored rows of the pass, which many logs share. Item `j` is row `j` of the pass. The list may be
+    /// empty.
     pub fn kept_rows(&self) -> &'a [ComparedRow]
         ensures { AreComparedRows self.now.test.board self.now.test.plan self.now.number
             result.now }
@@ -225,7 +229,8 @@ impl<'a> LoggedPass<'a> {
         self.pass.plan().code(net)
     }
 
-    /// Returns the bits to which a net is driven in the rows of this pass, as words, and the net's pull.
+    /// Returns the bits to which a net is driven in the rows of this pass, as words, and the net's pull. Bit `j` of a
+    /// word belongs to row `j`.
     pub fn fed_words(&self, net: u32) -> FedWords
         ensures { AreWordsIn self.now net result }
     {

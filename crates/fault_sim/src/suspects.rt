@@ -195,10 +195,10 @@ fn suspects_of(
 }
 
 impl Suspects {
-    /// Returns the places of a universe whose faults may explain a log. If one net differs in the log, these are the places of all faults
-    /// of this net. If two nets differ, these are the places of the shorts of the two nets. Otherwise there are none. The plan must be
-    /// built from the board's passes, and the universe must be built for this board. The log must have the plan's rows, each as long as a
-    /// data scan.
+    /// Returns the places of a universe whose faults may explain a log. If one net differs in the log, these are the
+    /// places of all faults of this net. If two nets differ, these are the places of the shorts of the two nets.
+    /// Otherwise there are none. The plan must be built from the board's passes. The universe, which has all places of
+    /// a board, must be built for this board. The log must have the plan's rows, each as long as a data scan.
     pub fn new(
         alloc: Global,
         board: &Board,
@@ -225,7 +225,8 @@ impl Suspects {
         self.places.len() as u64
     }
 
-    /// Returns the place of suspect `i` in the universe. `i` must be below the number of suspects. The places are in ascending order.
+    /// Returns the place of suspect `i`, counted from 0, in the universe. `i` must be below the number of suspects. The
+    /// places are in ascending order.
     pub fn place(&self, i: u64) -> u64
         requires { i < length self.now }
         ensures { slice_get self.now i ≡ Some result }

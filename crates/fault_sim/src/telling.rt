@@ -52,7 +52,8 @@ impl<'a> TellingNet<'a> {
         }
     }
 
-    // Returns the bits that `fault` gives this net, if `fault` is a short of this net. Returns `None` for any other fault.
+    // Returns the bits that `fault` gives this net in the rows of the pass, as a word, if `fault` is a short of this
+    // net. Returns `None` for any other fault.
     fn short_word(&self, fault: Single) -> Option<u32>
         ensures { IfSome result (IsWordOn self.now fault) }
     {
@@ -90,8 +91,9 @@ impl<'a> TellingNet<'a> {
 }
 
 impl<'a> ComparedLog<'a> {
-    /// Returns the first net that differs in the log, in the first pass in which this net does not show the expected bits. Returns `None` if
-    /// no net differs. The pass rules out nearly every short of the net that does not explain the log.
+    /// Returns the first net that differs in the log, in the first pass in which this net does not have the expected
+    /// bits. Returns `None` if no net differs. The result rules out nearly every short of the net that does not explain
+    /// the log.
     pub fn telling_net(&self) -> Option<TellingNet<'a>>
         ensures { IfSome result (λ telling. telling.pass.logged ≡ self.now) }
     {

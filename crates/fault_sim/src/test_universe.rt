@@ -1,4 +1,4 @@
-// A board's test with the universe of the board.
+// A board's test with the universe of the board, which numbers the board's possible single faults.
 ghost use Rattle.std.specs.Prelude.{◌≡◌, IfOk};
 ghost use Rattle.fault_sim.specs.Places.{IsUniverse};
 

@@ -26,7 +26,8 @@ pub fn coded_nets(alloc: Global, plan: &Plan, count: u32) -> Result<Vec<u32>, Al
     Ok(nets)
 }
 
-// Returns whether some pass observes both nets. `kept` must be kept passes of the plan.
+// Returns whether some pass observes both nets. `kept` must have the stored drivers of the plan's first passes. It may
+// be empty.
 fn paired_in(plan: &Plan, kept: &[KeptPass], a: u32, b: u32) -> bool
     requires { KeepDrivers plan.now kept.now }
     ensures { result ≡ paired_in plan.now a b }
@@ -40,7 +41,8 @@ fn paired_in(plan: &Plan, kept: &[KeptPass], a: u32, b: u32) -> bool
     false
 }
 
-/// Returns whether some pass observes both nets of a short. Returns true for a fault of one net. `kept` must be kept passes of the plan.
+/// Returns whether some pass observes both nets of a short. Returns true for a fault of one net. `kept` must have the
+/// stored drivers of the plan's first passes. It may be empty.
 pub fn observes_fault(plan: &Plan, kept: &[KeptPass], fault: Single) -> bool
     requires { KeepDrivers plan.now kept.now }
     ensures { result ≡ observes_fault plan.now fault }

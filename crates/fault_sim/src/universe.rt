@@ -1,4 +1,4 @@
-// The numbered places of a board's single faults.
+// The universe of a board: the places of its single faults. A place is the number of a possible single fault.
 ghost use Rattle.std.specs.Prelude.{◌≡◌, ◌+◌, ◌-◌, ◌<◌, ◌≤◌, true, length, slice_get, slice_index_or, IfOk, Some};
 ghost use Rattle.std.specs.List.{flat_map};
 ghost use Rattle.board_defs.specs.declared.board.RawBoard.{RawBoard};
@@ -200,8 +200,8 @@ fn kind_at(k: u64) -> Kind
     }
 }
 
-// Returns short `k` in the list of the shorts of all pairs of covered nets. Each pair has four shorts. The short is returned even if no
-// pass observes both nets.
+// Returns short `k` in the list of the shorts of all pairs of covered nets. Each pair has four shorts. The short is
+// returned even if no pass observes both nets. `near` only speeds up the look-up, as in `pair_at`.
 fn short_at(lists: &FaultLists, k: u64, near: &mut usize) -> Option<Single>
     ensures { (plan : PlanTables)
         → listed_at (flat_map (number_places plan) (pairs_within lists.now.nets)) k
@@ -213,7 +213,8 @@ fn short_at(lists: &FaultLists, k: u64, near: &mut usize) -> Option<Single>
     Some(Single::Short { a, b, kind })
 }
 
-// Returns the fault at place `i`. A short is returned even if no pass observes both of its nets.
+// Returns the fault at place `i`. A short is returned even if no pass observes both of its nets. `near` only speeds up
+// the look-up of a short, as in `pair_at`.
 fn place_at(lists: &FaultLists, i: u64, near: &mut usize) -> Option<Single>
     ensures { (plan : PlanTables)
         → listed_at (listed_places plan lists.now) i ≡ where_observed plan result }
@@ -229,7 +230,7 @@ fn place_at(lists: &FaultLists, i: u64, near: &mut usize) -> Option<Single>
     }
 }
 
-// Returns `fault`, or `None` if no pass observes all nets of the fault.
+// Returns `fault`, or `None` if there is no pass that observes all nets of the fault.
 fn where_observed(plan: &Plan, fault: Option<Single>) -> Option<Single>
     ensures { result ≡ where_observed plan.now fault }
 {
@@ -289,8 +290,9 @@ impl Universe {
         2 * nets + (2 * pins + 4 * pair_count(&self.lists))
     }
 
-    /// Returns the single fault at place `i`. `i` must be below the number of places. Returns `None` exactly if the place belongs to a pair
-    /// of covered nets and no pass observes both. The universe must be built with this plan. Allocates nothing.
+    /// Returns the single fault at place `i`, counted from 0. `i` must be below the number of places. Returns `None` if
+    /// and only if the place belongs to a pair of covered nets and no pass observes both. The universe must be built
+    /// with this plan. Allocates nothing.
     pub fn at(&self, plan: &Plan, i: u64) -> Option<Single>
         requires { i < place_count self.now }
         ensures { (board : RawBoard) → IsBoard board → IsPlanOf board plan.now

@@ -50,8 +50,8 @@ fn source_word(source: Source) -> u32
     }
 }
 
-// Returns the rows in which a driver is on. `value` has the bits of the driver's cell. `off` is the bit of this cell that switches the
-// driver off, or `None` if the driver is always on.
+// Returns the rows in which a driver is on. `value` has the bits of the driver's cell. `off` is the bit of this cell
+// that switches the driver off, or `None` if neither bit of this cell does.
 #[inline]
 fn rows_on(off: Option<bool>, value: u32) -> u32
     ensures { (j : ℕ) → j < 32
@@ -64,7 +64,8 @@ fn rows_on(off: Option<bool>, value: u32) -> u32
     }
 }
 
-// Returns the rows in which a feed drives its net, and the bits to which the net is driven.
+// Returns the rows in which a net is driven, and the bits to which it is driven, as words. The feed gives the bits of
+// the net's enabled driver.
 #[inline]
 fn feed_words(feed: Option<Feed>) -> FeedWords
     ensures { (j : ℕ) → j < 32 → driven_bit result j ≡ feed_bit feed j }
@@ -135,8 +136,9 @@ fn undriven_word(pull: Option<bool>, code: u32) -> u32
     }
 }
 
-/// Returns the common bits of two shorted nets in the rows of a pass. In a row in which neither net is driven, the bit is the one to which
-/// the nets are pulled. If neither net has a pull, it is the expected bit, that is, the bit of `code`.
+/// Returns the common bits of two shorted nets in the rows of a pass. In a row in which neither net is driven, the
+/// pulls of the nets give the bit in the same way as driven bits do. If neither net has a pull, the bit is the expected
+/// bit, that is, the bit of `code`.
 #[inline]
 pub fn short_word(kind: Kind, first: FedWords, second: FedWords, code: u32) -> u32
     ensures { (j : ℕ) → j < 32 → word_bit result j ≡ short_word_bit kind first second code j }

@@ -1,4 +1,5 @@
--- Proofs that three walks over the entries of a device give the bits of the device in the quiet row, in which no control is enabled.
+-- Proofs that three walks over the entries of a device give the bits of the device in the quiet row, which disables every driver that has a
+-- control.
 use Rattle.std.proofs.Common.{◌≡◌, ℕ, zero, suc, ◌<◌, ◌==◌, Bool, true, false, cond, ◌&&◌, List, [], ◌∷◌, length, get_or, set, replicate, Option, Some, None, unwrap_or, refl, sym, ap, ◌∙◌, arith, ◌⊎◌, inl, inr}
 use Rattle.std.specs.Prelude.{slice_get, option_and_then, option_map, filter_map}
 use Rattle.std.specs.List.{list_any, cons_option}

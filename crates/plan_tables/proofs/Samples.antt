@@ -29,7 +29,8 @@ driven : assigned (λ d. d.position) (code_bit_of_driver (1 ∷ []) 0) (slice_se
     (enabled ∷ []) ≡ false ∷ false ∷ true ∷ true ∷ false ∷ []
 driven = refl
 
--- the expected bits or the mask: the cell that reads the driver's own pin is not compared
+-- The bits that `set_compared` sets for the enabled driver. These are the expected bits or the mask. The cell that reads the driver's own
+-- pin keeps its 0, since it is not compared.
 abbrev compared : (DriverCell → Bool) → List Bool
 compared bit = set_compared bit (readers ∷ []) (replicate 5 false) (enabled ∷ [])
 
@@ -83,7 +84,7 @@ uses = record { held = false ∷ true ∷ false ∷ false ∷ true ∷ true ∷ 
 abbrev drivers : List Observer
 drivers = driver 0 (Some 4) ∷ driver 1 (Some 4) ∷ driver 2 (Some 5) ∷ driver 3 None ∷ []
 
--- the drivers that both passes enable are steady, except the driver with its cell at position 1
+-- The drivers that both passes enable are steady, except the driver with its cell at position 1. This cell is a control of pass 0.
 steady : steady_cells uses 2 drivers ≡ cell 0 ∷ cell 3 ∷ []
 steady = refl
 

@@ -62,7 +62,7 @@ driver_cell board pass n net place is_net observing = by_at o.pin.at refl o.enab
     by_at None is_at on = cc on
     by_at (Some at) is_at on = by_entry at is_at (entry_at board at) refl on
 
--- the steady driver cells, followed by the other driver cells of each pass
+-- the steady driver cells, which are the same in all passes, followed by the other driver cells of each pass
 abbrev all_cells : RawBoard → List Bool → List (List Ctl) → List DriverCell → DriverTable → List DriverCell
 all_cells board quiet passes steady table = steady ++ flat_map (λ pass. (pass_cells_of board quiet table pass).drivers) passes
 

@@ -1,4 +1,4 @@
--- Lemmas about the steady driver cells and about the cells of each pass.
+-- Lemmas about the steady driver cells, which are driver cells of every pass, and about the cells of each pass.
 use Rattle.std.proofs.Common.{◌≡◌, ℕ, suc, ◌<◌, ◌≤◌, ◌==◌, nat_lt, Bool, true, false, not, cond, ◌&&◌, List, [], ◌∷◌, ◌++◌, length, map, get_or, set, replicate, Option, Some, None, refl, sym, ap, ◌∙◌, subst, arith, length-set, ◌⊎◌, inl, inr}
 use Rattle.std.specs.Prelude.{slice_get, filter, Contains}
 use Rattle.std.specs.List.{flat_map}
@@ -98,8 +98,8 @@ flagged board quiet passes uses are x pass e h own within =
     (has_flat_map cells passes pass h (has_at passes x pass e) own)
     (omega (arith, within, length-replicate (length quiet) false))
 
--- observer `x` is steady: `passes` is not 0, no pass has a control with the observer's cell, and the observer has no control or the run of
--- its control is exactly `passes`
+-- observer `x` is steady: `passes` is not 0, no pass has the observer's own cell as a control, and the observer has no control or the run
+-- of its control's position is exactly `passes`
 pub record Steady (uses : Uses) (passes : ℕ) (x : Observer) : Type 0 where
   pub some : 0 < passes
   pub free : get_or uses.held x.cell.position false ≡ false

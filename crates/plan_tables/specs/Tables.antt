@@ -64,7 +64,7 @@ pub record IsReaderCell (board : RawBoard) (net : Net) (r : ReaderCell) : Type 0
   pub reads : reads_bit at.bit entry ≡ true
   pub position_is : r.position ≡ first_position board at.part + entry.num
 
--- the cells that a pass sets in the rows that all passes share: the cells of its controls, and its driver cells that are not steady
+-- the cells of a pass that are not the same in all passes: the cells of its controls, and its driver cells that are not steady
 pub record PassCells : Type 0 where
   pub held : List HeldCell
   pub drivers : List DriverCell

@@ -23,7 +23,7 @@ use counting_codes::width;
 use net_pins::{NetPins, NetTables};
 use std::alloc::{AllocError, Global};
 
-// The driver cells of the passes of a plan, and the codes of the nets.
+// The cells of the drivers by which the passes of a plan observe nets, and the codes of the nets.
 #[derive(Drop)]
 struct PassParts {
     cells: PassTables,
@@ -53,8 +53,8 @@ fn board_rows(alloc: Global, board: &Board) -> Result<BoardRows, AllocError>
 }
 
 // Returns the driver table of the observers that are not steady. An observer is a driver by which its net can be
-// observed. It is steady if there is a pass, every pass enables it and no pass has a control with the observer's cell.
-// `passes` must be the number of passes, and `bits` is the number of bits in a data scan.
+// observed. It is steady if there is a pass, every pass enables it and no pass has the observer's own cell as a
+// control. `passes` must be the number of passes, and `bits` is the number of bits in a data scan.
 fn moving_table(
     alloc: Global,
     uses: &Uses,
@@ -85,9 +85,9 @@ fn cells_by(
     Ok(PassTables { steady, by_control })
 }
 
-// Returns the driver cells of the passes. `pins` must be the pins of the board's nets, and `quiet` must be the board's
-// quiet row. Each pass must be safe, and each of its controls must control a driver of the board. There must be fewer
-// than 2^32 passes.
+// Returns the driver cells of the passes, which are the cells of the drivers by which the passes observe nets. `nets`
+// must be the tables of the board's nets, and `quiet` must be the board's quiet row. Each pass must be safe, and each
+// of its controls must control a driver of the board. There must be fewer than 2^32 passes.
 fn pass_tables(
     alloc: Global,
     placed: &PlacedBoard,

@@ -53,8 +53,8 @@ fn mark_passes(placed: &PlacedBoard, table: &DriverTable, passes: &[Setting], fl
     }
 }
 
-// Returns a flag for each of the first `nets` nets. The flag is true if the net has a driver cell that is steady or
-// belongs to a pass. Each control of a pass must be a cell of its part.
+// Returns a flag for each of the first `nets` nets. The flag is true if the net has a driver cell in `tables`: one that
+// all passes share, or one that belongs to one of these passes. Each control of a pass must be a cell of its part.
 fn seen_nets(
     alloc: Global,
     placed: &PlacedBoard,
@@ -95,9 +95,9 @@ fn number_nets(alloc: Global, seen: &[bool]) -> Result<NetCodes, AllocError>
     })
 }
 
-/// Returns the codes of a board's nets. `nets` is the number of nets, at most `most_nets`. The nets that some pass
-/// observes are numbered from 1 in net order. Every other net has code 0. Each control of a pass must be a cell of its
-/// part.
+/// Returns the codes of a board's nets. `nets` is the number of nets, at most `most_nets`. The nets that have a driver
+/// cell in `tables` for some pass are numbered from 1 in net order. If `tables` belongs to the passes, these are the
+/// nets that some pass observes. Every other net has code 0. Each control of a pass must be a cell of its part.
 pub fn net_codes(
     alloc: Global,
     placed: &PlacedBoard,

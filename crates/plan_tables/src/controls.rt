@@ -1,4 +1,5 @@
-// The driver cells of each control. The driver cells of a pass are looked up here by the controls of the pass.
+// The driver cells of each control, which are the cells of the drivers that the control enables. To find the driver
+// cells of a pass, look up each control of the pass here.
 ghost use Rattle.std.specs.Prelude.{◌≡◌, ◌<◌, [], slice_index_or, IfOk, OnOk};
 ghost use Rattle.board_defs.specs.Pins.{device_at, cell_count};
 ghost use Rattle.plan_tables.specs.Tables.{AreFirsts, controlled};
@@ -15,7 +16,7 @@ use std::alloc::{AllocError, Global};
 pub type ControlCells = Items<DriverCell>;
 
 /// The cells of drivers by which passes observe nets. `always` has the cells of the drivers that are always on. `rows`
-/// has, at the position of each control's cell, the cells of the drivers of that control.
+/// has an item for each position in data scans: the cells of the drivers that the control at this position enables.
 #[derive(Drop)]
 pub struct DriverTable {
     pub always: Items<DriverCell>,
@@ -43,7 +44,7 @@ fn always_on(alloc: Global, observers: &[Observer]) -> Result<Vec<DriverCell>, A
     Ok(cells)
 }
 
-/// Returns the table of the cells of these drivers. It has `bits` rows, one for each position in data scans.
+/// Returns the table of the cells of these drivers. Its `rows` has `bits` items, one for each position in data scans.
 pub fn driver_table(
     alloc: Global,
     observers: &[Observer],
@@ -61,7 +62,7 @@ pub fn driver_table(
 }
 
 /// Returns the driver cells of the control whose cell has position `control`, or no cells if this position is past the
-/// last row.
+/// last item of `rows`.
 fn cells_at(rows: &[ControlCells], control: usize) -> &[DriverCell]
     ensures { result.now ≡ slice_index_or rows.now control [] }
 {

@@ -1,4 +1,5 @@
-// Makes the rows of the two instruction scans.
+// Makes the rows (TDI, TDO and mask) of the two instruction scans. One scan shifts in the preload codes, and the other
+// the EXTEST codes.
 ghost use Rattle.std.specs.Prelude.{◌≡◌, ◌+◌, ◌<◌, ◌≤◌, ◌++◌, List, Bool, map, length, replicate, drop, IfOk, OnOk};
 ghost use Rattle.board_defs.specs.Limits.{most_bits};
 ghost use Rattle.board_defs.specs.declared.board.PartKind.TheVariants.{Described};
@@ -70,7 +71,7 @@ fn push_code(
 }
 
 // Appends the expected bits of a part's instruction register to `tdo`, and their mask to `mask`. Only the two bits
-// nearest TDO are compared: first a 1, then a 0. `length` must be at least 2.
+// nearest TDO are compared. They must be a 1 and then, one bit farther from TDO, a 0. `length` must be at least 2.
 fn push_capture(length: u32, tdo: &mut Vec<bool>, mask: &mut Vec<bool>) -> Result<(), AllocError>
     requires { 2 ≤ length }
     ensures tdo { OnOk result (tdo.new.items ≡ tdo.old.items ++ captured_bits length) }
@@ -125,8 +126,8 @@ fn rows_of(
     stored(alloc, &tdi, &tdo, &mask)
 }
 
-/// Returns the rows of an instruction scan. It loads this instruction into each described part, and BYPASS into the
-/// other parts.
+/// Returns the rows of an instruction scan. The scan loads this instruction into each described part, and BYPASS into
+/// the other parts.
 pub fn instruction_rows(
     alloc: Global,
     instruction: Instruction,

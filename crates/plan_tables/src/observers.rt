@@ -64,7 +64,7 @@ fn push_observers(
     Ok(())
 }
 
-/// Returns the drivers by which the nets of a board can be observed, in net order. `pins` must be the pins of the
+/// Returns the drivers by which the nets of a board can be observed, in net order. `nets` must be the tables of the
 /// board's nets.
 pub fn observers_of_nets(
     alloc: Global,

@@ -30,7 +30,7 @@ pub struct BoardRows {
     pub extest: StoredRows,
 }
 
-/// The driver cells that are the same in all passes (the steady cells), and the driver cells of each control.
+/// The driver cells that are the same in all passes (the steady cells), and the table of the other driver cells.
 #[derive(Drop)]
 pub struct PassTables {
     pub steady: Items<DriverCell>,
@@ -39,8 +39,8 @@ pub struct PassTables {
 
 /// The tables of a plan. The instruction scans, the quiet row and the steady driver cells are the same in all passes.
 /// The other cells of a pass are looked up by its controls, in `firsts` (the position of each part's first bit in data
-/// scans) and in `by_control` (the driver cells of each control). `codes` has the code of each net, and `nets` the
-/// net's drivers and compared cells. `width` is the number of bits of a code.
+/// scans) and in `by_control` (the driver cells of each control). `codes` has the code of each net, and `nets` has the
+/// drivers and the compared cells of each net. `width` is the number of bits of a code.
 #[derive(Drop)]
 pub struct PlanTables {
     pub passes: Items<Setting>,

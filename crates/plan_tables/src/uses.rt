@@ -15,7 +15,8 @@ use lists::{is_set, mark};
 use std::alloc::{AllocError, Global};
 
 /// For each position in data scans, `held` says whether some pass has a control whose cell is there. `runs` has the
-/// *run* of each position: the number of passes, from the first on, that all have such a control.
+/// *run* of each position: the largest number `r` for which each of the first `r` passes has a control whose cell is
+/// there.
 #[derive(Drop)]
 pub struct Uses {
     pub held: Items<bool>,
@@ -30,8 +31,8 @@ fn mark_held(flags: &mut [bool], held: &[HeldCell])
     }
 }
 
-// Notes that pass `k` has a control whose cell is at the position. If all earlier passes have such a control, the run
-// grows by one. `k + 1` must be below 2^32.
+// Updates the run of a position for pass `k`, which has a control whose cell is there. The run grows by one if it is
+// `k`, that is, if all earlier passes have such a control. `k + 1` must be below 2^32.
 fn run(runs: &mut [u32], k: u32, position: usize)
     requires { k + 1 < 2 ^ 32 }
     ensures { runs.new ≡ run_at k runs.old position }
@@ -125,9 +126,9 @@ fn is_common(uses: &Uses, passes: u32, control: Option<u32>) -> bool
     }
 }
 
-// Returns whether the observer is steady: `passes` is not 0, no pass has a control with the driver's cell, and the
-// driver has no control or the run of its control is exactly `passes`. If `passes` is the number of passes, every pass
-// then enables the driver.
+// Returns whether the observer is steady. It is if three conditions hold: `passes` is not 0, no pass has the observer's
+// own cell as a control, and the observer has no control or the run of its control's position is exactly `passes`. If
+// `passes` is the number of passes, every pass then enables the observer.
 fn is_steady(uses: &Uses, passes: u32, observer: Observer) -> bool
     ensures { result ≡ is_steady uses.now passes observer }
 {
@@ -138,7 +139,7 @@ fn is_steady(uses: &Uses, passes: u32, observer: Observer) -> bool
 }
 
 /// Returns the cells of the steady observers. `passes` must be the number of passes. An observer is steady if there is
-/// at least one pass, every pass enables the observer, and no pass has a control with the observer's cell.
+/// at least one pass, every pass enables the observer, and no pass has the observer's own cell as a control.
 pub fn steady_cells(
     alloc: Global,
     uses: &Uses,
@@ -156,7 +157,7 @@ pub fn steady_cells(
     Ok(Items::of(cells))
 }
 
-/// Returns the observers that are not steady.
+/// Returns the observers that are not steady. `passes` must be the number of passes.
 pub fn moving(
     alloc: Global,
     uses: &Uses,

@@ -16,7 +16,7 @@ use Rattle.response_log.proofs.KeptLemmas.{put_behind}
 abbrev pub counted : ℕ → ℕ → List (List Bool) → LogAnswer
 counted rows found log = cond (nat_lt found rows) (Err (Missing found)) (Ok log)
 
--- the log that the rows of `log` and these later lines give, or the first fault of the lines
+-- the log or fault of a text whose first lines with words are the rows of `log` and whose other lines with words are `lines`
 abbrev pub rows_after : ℕ → ℕ → List (List Bool) → List NumberedLine → LogAnswer
 rows_after rows len log lines =
     first_or (counted rows (length log + length lines) (log ++ filter_map (bits_of_line len) lines))
@@ -151,11 +151,12 @@ fails_by (Missing found) said is = is
 fails_by (Extra n) said is = is
 fails_by (Memory e) said is = tt
 
--- a line of `line` bytes begins at `from`, and the next line begins at `next`, within the text
+-- in a text of `text` bytes, a line of `line` bytes begins at `from` and the next line begins at `next`
 abbrev pub Follows : ℕ → ℕ → ℕ → ℕ → Type 0
 Follows from line text next = (next ≡ from + line + 1) × (next ≤ text)
 
--- The place `from` is within the text and not before the end of the kept bytes. The line number is at most one more than this place.
+-- The place `from` is within the text, which has `text` bytes, and not before place `kept`, up to which digits were written over the text.
+-- The number of the line at `from` is at most `from + 1`.
 abbrev pub IsBehind : ℕ → ℕ → ℕ → ℕ → Type 0
 IsBehind kept text number from = (kept ≤ from) × (from ≤ text) × (number ≤ 1 + from)
 

@@ -100,7 +100,8 @@ module _ (len : ℕ) (line : NumberedLine) where
   told_digit (Some (Extra n)) says long no_row = absurd says
   told_digit (Some (Memory e)) says long no_row = absurd says
 
--- if `rows` rows are expected, the fault that is reported for lines after some rows is the first offense of the rows and these lines
+-- `rows_after` reports a fault for some rows and the lines after them. The fault is the first offense of these rows and lines, if `rows`
+-- rows are expected.
 module _ (rows len : ℕ) where
   abbrev IsFirst : List NumberedLine → LogFault → Type 0
   IsFirst lines fault = IsFirstOffense rows len lines fault
@@ -182,8 +183,8 @@ module _ (rows len : ℕ) where
   to : (lines : List NumberedLine) (fault : LogFault) → rows_of_lines rows len lines ≡ Err fault → IsFirst lines fault
   to lines fault is = first [] lines [] fault (All-nil (IsLogRow len)) refl (omega arith) (sym (rows_after-nil rows len lines) ∙ is)
 
-  -- The lines `before` come after the rows of `log`, and `passed` has as many rows as both together. The lines `before` and `later` then
-  -- give the same log or fault as the lines `later` after the rows `passed`.
+  -- `passed` has as many rows as `log` and `before` together. After the rows `log`, the lines `before` and `later` give the same log or
+  -- fault as the lines `later` give after the rows `passed`.
   record Passed (before later : List NumberedLine) (log : List (List Bool)) : Type 0 where
     passed : List (List Bool)
     count : length passed ≡ length log + length before

@@ -22,9 +22,10 @@ pub record StandsBehind (len : ℕ) (lines : List NumberedLine) (line : Numbered
   pub rows : All (IsLogRow len) before
   pub count : length before ≡ found
 
--- The one fault of lines with words, of which `rows` must be rows of `len` bits. If a line must be a row but is not, the first such line
--- has the fault: `Length` if its length is wrong, and otherwise `Digit`. If the first `rows` lines are rows and another line follows, that
--- line has the fault `Extra`. If every line is a row but there are fewer than `rows` lines, the fault is `Missing`.
+-- The first offense of lines with words, if `rows` rows of `len` bits are expected. Each of the first `rows` lines must be a row. If one of
+-- them is not, the first such line has the fault: `Length` if its length is wrong, and otherwise `Digit`. If the first `rows` lines are
+-- rows and another line follows, that line has the fault `Extra`. If every line is a row but there are fewer than `rows` lines, the fault
+-- is `Missing`.
 abbrev pub IsFirstOffense : ℕ → ℕ → List NumberedLine → LogFault → Type 0
 IsFirstOffense rows len lines (Length n) =
     (line : NumberedLine) × (found : ℕ) × StandsBehind len lines line found × (found < rows)
@@ -48,6 +49,6 @@ pub record HasOneOffense (text : List ℕ) (rows len : ℕ) : Type 0 where
   pub is : IsFirstOffense rows len (row_lines text) fault
   pub one : (other : LogFault) → IsFirstOffense rows len (row_lines text) other → other ≡ fault
 
--- a text has exactly one first offense if it is not a log, and only then
+-- a text has exactly one first offense if and only if it is not a log
 abbrev pub OneOffenseOrLog : Type 0
 OneOffenseOrLog = (text : List ℕ) (rows len : ℕ) → HasOneOffense text rows len ↔ ((log : List (List Bool)) → ¬ IsLogOf text rows len log)

@@ -15,7 +15,7 @@ pub record NumberedLine : Type 0 where
 abbrev pub line_with : ℕ → Word → List ℕ → NumberedLine
 line_with n word behind = record { number = n; words = word ∷ words_of behind }
 
--- lines in order, of which the first has this number
+-- these lines with their words, numbered from `n` in order
 abbrev pub numbered_lines : ℕ → List (List ℕ) → List NumberedLine
 numbered_lines n [] = []
 numbered_lines n (line ∷ lines) = record { number = n; words = words_of line } ∷ numbered_lines (n + 1) lines

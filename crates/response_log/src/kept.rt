@@ -40,8 +40,8 @@ impl Model for Log {
 }
 
 impl Log {
-    // Returns the log of `rows` rows of `len` bits each. `digits` must have exactly the digits of these rows, and each
-    // bit above the bits of a row must be 0.
+    // Returns the log of `rows` rows of `len` bits each. `digits` must have exactly the digits of these rows. If `len`
+    // is not a multiple of 4, the last digit of each row has unused high bits, and these must be 0.
     pub(crate) fn of(digits: Vec<u8>, rows: u64, len: u32) -> Log
         requires count { length digits.items ≡ rows * digit_count len }
         requires whole { AreWhole len rows digits.items }

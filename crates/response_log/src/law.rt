@@ -11,7 +11,7 @@ pub fn rows_are_the_lines()
 {}
 
 /// The fault that is reported for a text is the text's first offense: the fault of the first wrong line, or of missing
-/// rows if no line is wrong. A text has exactly one first offense if it is not a log, and only then.
+/// rows if no line is wrong. A text has exactly one first offense if and only if it is not a log.
 pub fn fault_is_the_first_offense()
     ensures told { FirstOffenseIsTold }
     ensures one { OneOffenseOrLog }

@@ -1,5 +1,5 @@
--- Proofs about the row of a pass. In the row in which no cell carries a net's bit, set the cell of each observing driver to the bit of its
--- net. The result is the row of the pass.
+-- Proof that the row of a pass can be made in two steps. The first step makes the row of the pass's setting in which no cell carries a
+-- net's bit. The second step sets the cell of each driver by which the pass observes a net to the bit of that net.
 use Rattle.std.proofs.Common.{◌≡◌, ℕ, ◌+◌, ◌==◌, Bool, true, false, List, Option, Some, None, unwrap_or, refl, sym, ap, ◌∙◌, subst, arith, ◌⊎◌, inl, inr}
 use Rattle.std.specs.Prelude.{slice_get, option_and_then}
 use Rattle.std.proofs.lemmas.Bool.{eq-eqb, eqb-true}

@@ -34,7 +34,7 @@ use Rattle.plan_tables.proofs.SeenLemmas.{driver_cell}
 abbrev pub Pair : Type 0
 Pair = DriverCell × ReaderCell
 
--- driver cell `d`, paired in turn with each cell that reads a pin of the net other than the driver's pin
+-- driver cell `d`, paired with each of the cells `readers` that is on a pin other than the driver's pin
 abbrev pub pairs_of : DriverCell → List ReaderCell → List Pair
 pairs_of d [] = []
 pairs_of d (r ∷ readers) = cond (r.place == d.place) (pairs_of d readers) ((d, r) ∷ pairs_of d readers)

@@ -1,5 +1,5 @@
--- Samples of the rows that all passes share, for a bus with two drivers and a receiver. The bus has one steady driver or none. The expected
--- values are worked out by hand.
+-- Samples of the rows that all passes share, for a bus with two drivers and a receiver. The bus has one steady driver, which observes it in
+-- every pass, or none. The expected values are worked out by hand.
 use Rattle.std.proofs.Common.{◌≡◌, Bool, true, false, List, [], ◌∷◌, map, replicate, refl}
 use Rattle.bt_bits.specs.Rows.{BitRow}
 use Rattle.tap_defs.specs.declared.scan.StoredRows.{StoredRows}
@@ -18,8 +18,8 @@ no_rows = record { tdi = row []; tdo = row []; mask = row [] }
 abbrev quiet : List Bool
 quiet = false ∷ false ∷ true ∷ false ∷ true ∷ []
 
--- A plan with one net and these steady drivers. The net's code is 2. Cells read the net at position 3 on its first pin, and at position 0
--- on its third pin.
+-- A plan with one net and these steady drivers. The net's code is 2. The net's compared cells are at position 3, on its first pin, and at
+-- position 0, on its third pin.
 abbrev plan : List DriverCell → PlanTables
 plan steady = record {
   passes = [] ∷ [];

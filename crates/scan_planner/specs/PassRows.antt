@@ -32,13 +32,13 @@ pub record KeepRoom (old new : StackedRows) : Type 0 where
   pub expected : new.expected.room ≡ old.expected.room
   pub mask : new.mask.room ≡ old.mask.room
 
--- Row `j` of the bits that all passes shift in. It is the quiet row, in which no control is enabled, except that the cell of each steady
--- driver has bit `j` of the code of the driver's net. A steady driver observes its net in every pass.
+-- Row `j` of the bits that all passes shift in. It is the quiet row, except that the cell of each steady driver has bit `j` of the code of
+-- the driver's net. The quiet row disables every driver that has a control. A steady driver observes its net in every pass.
 abbrev pub steady_shifted : PlanTables → ℕ → List Bool
 steady_shifted plan j = assigned (λ d. d.position) (code_bit_of_driver plan.codes j) plan.quiet.bits plan.steady
 
--- The compared bits that all passes share, as a row. A cell that reads the net of a steady driver on another pin has the driver's bit.
--- Every other bit is 0.
+-- A row for the compared cells that all passes share. These are the compared cells of the steady drivers' nets, except the cells on the
+-- drivers' own pins. Each of these cells has the bit that `bit` gives the driver of its net. Every other bit is 0.
 abbrev pub steady_compared : PlanTables → (DriverCell → Bool) → List Bool
 steady_compared plan bit = set_compared bit plan.nets.readers (replicate (length plan.quiet.bits) false) plan.steady
 
@@ -49,7 +49,7 @@ pub record AreCommonStacks (plan : PlanTables) (rows : StackedRows) : Type 0 whe
   pub expected : (j : ℕ) → j < 16 → stacked rows.expected j ≡ steady_compared plan (code_bit_of_driver plan.codes j)
   pub mask : rows.mask.bits ≡ steady_compared plan (λ d. true)
 
--- row `j` of the list is row `j` of the stack
+-- row `j` of the list is row `j` of the stack, which stores rows side by side
 abbrev pub AreFirstRows : Stack → List BitRow → Type 0
 AreFirstRows stack rows = (j : ℕ) (row : BitRow) → slice_get rows j ≡ Some row → row.bits ≡ stacked stack j
 

@@ -14,7 +14,7 @@ use Rattle.plan_tables.specs.declared.tables.PlanTables.{PlanTables}
 pub use Rattle.plan_tables.specs.Plans.{ArePlannable, IsPlanOf}
 
 -- The number of scans: three at the beginning, and `width + 1` for each pass. A pass has one scan for each of its `width` rows. Its last
--- scan shifts in the quiet row, in which no control is enabled.
+-- scan shifts in the quiet row, which disables every driver that has a control.
 abbrev pub scan_count : PlanTables → ℕ
 scan_count plan = 3 + length plan.passes * suc plan.width
 
@@ -23,8 +23,9 @@ pub record IsRoom (board : RawBoard) (room : ℕ) : Type 0 where
   pub instructions : instruction_bits board ≤ room
   pub data_row : data_bits board ≤ room
 
--- The rows hold scan `k` of the test, and `shape` is its shape. All three rows have the same length, from 1 to the limit on the bits of a
--- scan. The scan compares something if and only if some bit of the mask is 1. Bit `i` of TDO is 1 only if bit `i` of the mask is 1.
+-- The rows hold scan `k` of the test. `shape` says whether it is an instruction scan, and whether it compares a bit, that is, whether some
+-- bit of the mask is 1. All three rows have the same length, from 1 to the limit on the bits of a scan. Bit `i` of TDO is 1 only if bit `i`
+-- of the mask is 1.
 pub record FillsScan (board : RawBoard) (passes : List (List Ctl)) (width k : ℕ) (shape : Shape) (tdi tdo mask : List Bool) : Type 0 where
   pub scan : slice_get (test_scans board passes width) k ≡ Some (record { ir = shape.ir; bits = scan_bits tdi tdo mask })
   pub some : 0 < length tdi

@@ -72,7 +72,7 @@ impl<'a> BoardPlan<'a> {
         self.plan
     }
 
-    /// Returns another value with the same board and the same plan.
+    /// Returns a copy of this value.
     pub fn again(&self) -> BoardPlan<'a>
         ensures { result ≡ self.now }
     {

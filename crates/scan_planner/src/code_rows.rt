@@ -82,7 +82,7 @@ pub fn set_within(row: &mut Row, position: u32, bit: bool)
     }
 }
 
-/// A single row, whose number is `number`.
+/// A single row: row `number` of a pass, which gets bit `number` of each code.
 #[derive(Drop)]
 pub struct RowAt<'a> {
     pub row: &'a mut Row,

@@ -14,8 +14,8 @@ use std::alloc::{AllocError, Global};
 pub struct CommonRows {
     /// The rows side by side, from which all rows of a pass are made at once.
     pub stacked: StackedRows,
-    /// The expected bits as separate rows, since reading one row of a stack costs as much as reading all its
-    /// rows.
+    /// The expected bits of `stacked`, again as separate rows, since reading one row of a stack costs as much as
+    /// reading all its rows.
     pub expected: Items<Row>,
 }
 
@@ -30,8 +30,8 @@ impl CommonRows {
         Ok(CommonRows { stacked, expected })
     }
 
-    /// Returns the expected bits of row `j`, as far as all passes share them. `j` must be below the number of rows of a
-    /// pass.
+    /// Returns the expected bits that all passes share in their row `j`. All other bits of the returned row are 0. `j`
+    /// must be below the number of rows of a pass.
     pub fn expected_row(&self, j: u32) -> &Row
         requires { j < length self.now.expected }
         ensures { slice_get self.now.expected j ≡ Some result.now }

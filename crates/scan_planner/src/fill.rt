@@ -16,7 +16,8 @@ use crate::compared_rows::ComparedRows;
 use bt_bits::Row;
 use tap_defs::{ScanRows, Shape, StoredRows};
 
-// Fills the rows with a stored instruction scan, and returns its shape. The rows must have room for this scan.
+// Fills the rows with a stored instruction scan. Returns its shape, which says whether the scan is an instruction scan
+// and whether it compares any bit. The rows must have room for this scan.
 fn fill_codes(codes: &StoredRows, rows: &mut ScanRows) -> Shape
     requires { HaveRoomFor codes.now rows.old }
     ensures bits { (bits : List ScanBit) → AreRowsOf bits codes.now → HoldBits bits rows.new }
@@ -32,7 +33,8 @@ fn fill_codes(codes: &StoredRows, rows: &mut ScanRows) -> Shape
 }
 
 impl<'a> BoardPlan<'a> {
-    /// Fills `tdi` with the quiet row, in which no control is enabled. `tdi` must have room for a scan of data.
+    /// Fills `tdi` with the quiet row, which disables every driver that has a control. `tdi` must have room for a scan
+    /// of data.
     pub fn shift_quiet(&self, tdi: &mut Row)
         requires { data_bits self.now.board ≤ tdi.old.room }
         ensures bits { (scan : RowScan) → scan.now ≡ quiet_row
@@ -44,8 +46,8 @@ impl<'a> BoardPlan<'a> {
         tdi.copy_row(&tables.quiet);
     }
 
-    /// Fills both rows with zeros, since a scan after the quiet row compares nothing. Each row must have room for a
-    /// scan of data.
+    /// Fills both rows with zeros. These are the expected bits and the mask of the scan after the quiet row, since that
+    /// scan compares nothing. Each row must have room for a scan of data.
     pub fn compare_nothing(&self, rows: &mut ComparedRows)
         requires { BothHaveRoom (data_bits self.now.board) rows.old }
         ensures bits { (scan : RowScan) → scan.before ≡ quiet_row

@@ -2,7 +2,8 @@
 //! the drivers and the compared cells of each net, and the bit at each position of the quiet row.
 //!
 //! All passes of a plan share rows that the plan makes only once. For each pass, a walk over the pass's cells sets the
-//! bits of these cells in copies of the shared rows. It sets them in all rows side by side, or in a single row.
+//! bits of these cells in copies of the shared rows. The walk sets them in all rows at once, which are stored side by
+//! side, or in a single row.
 #![tactic(auto)]
 
 mod board_plan;

@@ -99,9 +99,9 @@ impl<'a, 'k> PassWithRows<'a, 'k> {
         rows.mask.has_one()
     }
 
-    // Fills the rows with scan `j` of the pass, and returns its shape. The rows must hold the previous scan of the
-    // test, and `before` must be its shape. `j` must be at most the number of rows of a pass. Each row must have room
-    // for a scan of instructions and for a scan of data.
+    // Fills the rows with scan `j` of the pass, and returns its shape (whether it is an instruction scan, and whether
+    // it compares a bit). The rows must hold the previous scan of the test, and `before` must be its shape. `j` must be
+    // at most the number of rows of a pass. Each row must have room for a scan of instructions and for a scan of data.
     fn fill(&self, j: u32, before: Shape, rows: &mut ScanRows) -> Shape
         requires row { j ≤ self.now.test.plan.width }
         requires before { FillsRows self.now.test

@@ -36,8 +36,8 @@ struct PassControls<'a> {
     ghost cells: { (c : ControlRecord) → holds setting.now c ≡ true → c.cell < cell_count (device_at board.now c.part) },
 }
 
-// Writes a net's code at the cells that read the net, and marks these cells. Skips the cells on the pin at `place`, which is the driver's
-// pin.
+// Writes a net's code, as expected bits, at the net's compared cells, and marks these cells in the mask. Skips the
+// cells on the pin at `place`, which is the driver's pin.
 fn expect_net<E: CodeRows, M: CodeRows>(
     readers: &[ReaderCell],
     place: u32,
@@ -62,8 +62,8 @@ fn expect_net<E: CodeRows, M: CodeRows>(
     }
 }
 
-/// For each driver, writes the code of the driver's net at the driver's cell, and as expected bits at the cells on other pins that read the
-/// net. Marks these reading cells in the mask.
+/// For each driver, writes the code of the driver's net at the driver's cell, and as expected bits at the net's
+/// compared cells on other pins. Marks these compared cells in the mask.
 pub fn drive_nets<S: CodeRows, E: CodeRows, M: CodeRows>(
     drivers: &[DriverCell],
     nets: &NetTables,
@@ -114,9 +114,9 @@ impl PassControls<'_> {
         }
     }
 
-    // Writes the codes of the nets that the pass observes by its own drivers. The pass's own drivers are the drivers by
-    // which it observes nets, except the steady drivers. The steady drivers observe their nets in every pass, so their
-    // codes are already in the rows that all passes share.
+    // Writes the codes of the nets that the pass observes by its own drivers, and marks the cells that are compared.
+    // The pass's own drivers are the drivers by which it observes nets, except the steady drivers. The steady drivers
+    // observe their nets in every pass, so their codes are already in the rows that all passes share.
     fn drive<S: CodeRows, E: CodeRows, M: CodeRows>(
         &self,
         shifted: &mut S,

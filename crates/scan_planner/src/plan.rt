@@ -99,9 +99,9 @@ impl Plan {
         self.tables.passes.len() as u64 * u64::from(self.tables.width)
     }
 
-    /// Fills the rows with scan `k` of the test, counted from 0, and returns its shape. The board must be the board of the plan,
-    /// `k` must be below the number of scans, and each row must have room for an instruction scan and for a data scan. Allocates
-    /// nothing.
+    /// Fills the rows with scan `k` of the test, counted from 0, and returns its shape (whether it is an instruction
+    /// scan, and whether it compares a bit). The board must be the board of the plan, `k` must be below the number of
+    /// scans, and each row must have room for an instruction scan and for a data scan. Allocates nothing.
     pub fn fill(&self, board: &Board, k: u64, tdi: &mut Row, tdo: &mut Row, mask: &mut Row) -> Shape
         requires plan { IsPlanOf board.now self.now }
         requires scan { k < scan_count self.now }

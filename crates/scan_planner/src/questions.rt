@@ -71,15 +71,17 @@ impl Plan {
         self.tables.nets.enabled(pass, net)
     }
 
-    /// Returns the cells that read a net, in pin order. Returns no cells if no net has this number. A pass that observes the net compares
-    /// those of its cells that are on pins other than the driver's pin.
+    /// Returns the compared cells of a net, which are the INPUT, CLOCK and BIDIR cells of its receivers, in pin order.
+    /// Returns no cells if no net has this number. A pass that observes the net compares only those of these cells that
+    /// are on pins other than the driver's pin.
     pub fn readers(&self, net: u32) -> &[ReaderCell]
         ensures { result.now ≡ readers_on self.now.nets net }
     {
         self.tables.nets.readers(net)
     }
 
-    /// Returns the bit at a position of the quiet row, or false past its end. In the quiet row, no control is enabled.
+    /// Returns the bit at a position of the quiet row, or false past its end. The quiet row disables every driver that
+    /// has a control.
     pub fn quiet(&self, position: u32) -> bool
         ensures { result ≡ slice_index_or self.now.quiet.bits position false }
     {

@@ -55,7 +55,8 @@ use Rattle.walk_test.specs.WalkTest.{is_switched_by, switches_some}
 use Rattle.walk_test.specs.Groups.{group_of, or_shorts}
 use Rattle.walk_test.specs.inner.Reading.{is_one_group, are_joined}
 
--- if a cell reads an observed net on a pin other than the observing driver's pin, the cell is a compared cell
+-- An INPUT, CLOCK or BIDIR cell of a receiver on an observed net is compared, unless it is on the pin of the driver by which the setting
+-- observes the net.
 module _ (board : RawBoard) (rules : IsBoard board) (walk : List Ctl) (n : ℕ) (net : Net)
     (is_net : slice_get board.nets n ≡ Some net) (d : ℕ)
     (observing : observing_driver board (holds walk) net ≡ Some d) (r : ReaderCell)
@@ -210,7 +211,7 @@ module _ (board : RawBoard) (rules : IsBoard board) (walk : List Ctl) (setting :
   abbrev row : TestRow
   row = walk_row board walk j
 
-  -- net n, if it is a walk net, carries 1 in row j: j walk nets come before it
+  -- For a walk net n, whether the net carries 1 in row j. It does if exactly j walk nets come before it.
   abbrev pub is_marked : ℕ → Bool
   is_marked n = count_by (is_walked board walk) (take n board.nets) == j
 
@@ -368,7 +369,7 @@ module _ (board : RawBoard) (rules : IsBoard board) (walk : List Ctl) (setting :
     no_open : NoOpenShorted faults
     no_open n k i e = refl
 
-    -- the nets of short `k`, and the bits that their drivers feed
+    -- the nets of short `k`, and the bits to which their drivers drive them
     module _ (k : ℕ) where
       abbrev nets : List (OfNet Net)
       nets = shorted_nets faults k 0 board.nets
@@ -416,7 +417,8 @@ module _ (board : RawBoard) (rules : IsBoard board) (walk : List Ctl) (setting :
           (all_decided board row setting.safe places quiet_row chain held_row faults is_set no_open k)
           ∙ or_of fs (bits_held board faults states nets) (n, is_marked n) free (has_fed n e)
 
-    -- a compared cell of net `n` captures 1 if net `n` is joined with the net that carries 1, and otherwise 0
+    -- A compared cell of net `n` captures 1 if net `n` is the net that carries 1 or is in one group with that net. Otherwise the cell
+    -- captures 0.
     module _ (n : ℕ) (w : WalkedBy board walk n) (one : ℕ) (marked : (m : ℕ) → WalkedBy board walk m → is_marked m ≡ (m == one)) where
       net_bit_is : (shorts : ℕ → Bool) → net_bit board faults states shorts n w.net ≡ Some (are_joined groups n one)
       net_bit_is shorts = by_group (group_of groups n) refl

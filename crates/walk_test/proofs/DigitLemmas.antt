@@ -1,4 +1,5 @@
--- Lemmas about rows that are stored as the values of their hexadecimal digits: the compared bits of a row, and the marks that a loop makes.
+-- Lemmas about the compared bits of rows that are stored as the values of their hexadecimal digits. A loop over such a row notes the row's
+-- number for each compared position that reads 1.
 use Rattle.std.proofs.Common.{◌≡◌, ◌⊎◌, inl, inr, ℕ, ◌+◌, ◌<◌, ◌≤◌, ◌==◌, Bool, true, false, ◌&&◌, List, length, get_or, min, refl, sym, ap, ◌∙◌, subst, arith}
 use Rattle.std.specs.Int.{bit_at}
 use Rattle.std.specs.Int.Bits.{bit_and, bit_or}

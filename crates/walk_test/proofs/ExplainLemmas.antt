@@ -1,5 +1,5 @@
--- Lemmas about when a set of groups explains a log. In each row, a compared cell must read 1 if its net is joined with the net that carries
--- 1, and otherwise 0.
+-- Lemmas about when a set of groups explains a log. In each row, a compared cell must read 1 if its net is the net that carries 1 or is in
+-- one group with that net, and otherwise 0.
 use Rattle.std.proofs.Common.{◌≡◌, ◌≢◌, ◌⊎◌, inl, inr, ℕ, zero, suc, ◌+◌, ◌*◌, ◌<◌, ◌≤◌, ◌==◌, Bool, true, false, List, [], ◌∷◌, length, take, get_or, Option, Some, None, is_some, refl, sym, ◌∙◌, ap, subst, arith}
 use Rattle.std.specs.Prelude.{◌↔◌, slice_get, count_by, All, Contains}
 use Rattle.std.proofs.lemmas.Bool.{cases_eq}
@@ -109,7 +109,8 @@ bit_mask (a ∷ bits) (suc i) b v e q = bit_mask bits i b v e q
 mask_any : (board : RawBoard) (scan : RowScan) → mask_bits (joined (row_bits board scan)) ≡ mask_of board scan.before
 mask_any board scan = mask_laid board scan ∙ sym (mask_laid board (record { now = quiet_row; before = scan.before }))
 
--- in each row, each compared cell of a walk net reads 1 if its net is joined with the net that carries 1, and otherwise 0
+-- In each row, each compared cell of a walk net reads 1 if its net is the net that carries 1 or is in one group with that net, and
+-- otherwise 0.
 abbrev pub ShowJoined : RawBoard → List Ctl → List (List Bool) → List (List ℕ) → Type 0
 ShowJoined board walk log groups =
     (j one : ℕ) (logged : List Bool) (d : DriverCell) (s : IsDriverCell board walk d)

@@ -1,4 +1,4 @@
--- Lemmas about the rows that a walk keeps and about the rows that a walk fills.
+-- Lemmas about the rows that a walk stores for all its scans, and about the rows that it fills with one scan.
 use Rattle.std.proofs.Common.{◌≡◌, ◌⊎◌, inl, inr, ℕ, zero, suc, ◌+◌, ◌<◌, ◌≤◌, ◌==◌, ◌^◌, Bool, true, false, cond, List, [], ◌∷◌, length, take, map, get_or, set, replicate, Option, Some, None, is_some, unwrap_or, refl, sym, ◌∙◌, ap, subst, arith}
 use Rattle.std.specs.Prelude.{slice_get, filter, count_by, nat_lt, option_map}
 use Rattle.std.specs.Option.{option_to_list}
@@ -463,7 +463,7 @@ module _ (board : RawBoard) (rules : IsBoard board) (t : WalkTables) (w : IsWalk
           absurd (omega (arith, some, none))
       by_setting (Some walk) e = (walk, e)
 
-  -- scan j, counted from the first scan after the EXTEST codes
+  -- Scan `3 + j` of the walking test, counted from 0. The scan with `j = 0` is the first one after the EXTEST codes.
   abbrev scan_of : ℕ → RowScan
   scan_of j = record { now = now_of board (length t.nets) j; before = before_of board j }
 
@@ -636,7 +636,8 @@ nets_few board = at_most (λ n. is_walk_net board (walk_setting board) (slice_ge
         by_test true h = omega (arith, h)
         by_test false h = omega (arith, h)
 
--- the rows of a walk with a pass, which follow from the cells at each place
+-- The rows that scan j after the EXTEST codes (counted from 0) shifts in and compares, if the walk has a pass. They follow from whether a
+-- walk net is at place j, and at the place before it.
 module _ (board : RawBoard) (rules : IsBoard board) (t : WalkTables) (w : IsWalkOf board t) (some : 0 < length t.plan.passes) where
   net_there : (j : ℕ) (c : NetCells) → slice_get t.cells j ≡ Some c → j < length t.nets
   net_there j c at = omega (arith, slice_get_within t.cells j c at, cells_count board rules t w some)

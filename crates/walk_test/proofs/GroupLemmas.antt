@@ -1,4 +1,5 @@
--- Lemmas about lists of groups. Two lists of groups are equal if they put the same nets together.
+-- Lemmas about lists of groups. Two lists of groups that satisfy `AreOrdered` are equal if the same pairs of nets are in one group in both
+-- lists.
 use Rattle.std.proofs.Common.{◌≡◌, ◌⊎◌, inl, inr, ℕ, zero, suc, ◌+◌, ◌<◌, ◌≤◌, ◌==◌, Bool, true, false, cond, List, [], ◌∷◌, length, Option, Some, None, refl, sym, ◌∙◌, ap, subst, arith}
 use Rattle.std.specs.Prelude.{slice_get, Contains}
 use Rattle.std.specs.List.{list_any}

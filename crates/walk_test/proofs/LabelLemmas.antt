@@ -1,4 +1,5 @@
--- Lemmas about the labels that a log gives the walk nets, and about the groups of these labels.
+-- Lemmas about the labels that a log gives the walk nets, and about the groups of nets with equal labels. A net's label is the place, in
+-- the list of walk nets, of the first walk net whose 1 the net reads.
 use Rattle.std.proofs.Common.{◌≡◌, ◌≢◌, ◌⊎◌, inl, inr, ℕ, zero, suc, ◌+◌, ◌<◌, ◌≤◌, ◌==◌, Bool, true, false, cond, ◌&&◌, List, [], ◌∷◌, ◌++◌, length, take, map, get_or, Option, Some, None, Decides, refl, sym, ◌∙◌, ap, subst, arith, nat_le}
 use Rattle.std.specs.Prelude.{slice_get, All, Contains, option_map}
 use Rattle.std.specs.List.{flat_map, range_with_len}
@@ -130,7 +131,7 @@ module _ (log : List (List Bool)) (cells : List NetCells) (long : length cells �
       let in_labels : k < length log_labels = omega (arith, within, length-map cells (label_of log)) in
       (low, slice_get-get_or log_labels k 0 in_labels ∙ ap (λ (l : ℕ). Some l) (sym same ∙ mine))
 
--- some test decides the statement
+-- there is a boolean that is true if and only if the statement holds
 abbrev pub IsDecided : Type 0 → Type 0
 IsDecided P = (t : Bool) × Decides t P
 
@@ -277,7 +278,7 @@ two_items (x ∷ []) a b (inl p) (inr k) ne = absurd k
 two_items (x ∷ []) a b (inr h) k ne = absurd h
 two_items (x ∷ y ∷ xs) a b h k ne = omega arith
 
--- Lemmas about the groups of nets in ascending order. Each label is the place of a net with this label.
+-- Lemmas about the groups of nets. The nets are in ascending order. If a net has label k, the net at place k has this label too.
 module _ (nets labels : List ℕ) (rise : Rises nets) (count : length labels ≡ length nets)
     (own : (i k : ℕ) → slice_get labels i ≡ Some k → (k ≤ i) × (slice_get labels k ≡ Some k)) where
   abbrev groups : List (List ℕ)

@@ -133,7 +133,8 @@ module _ (safe : WalkSafe)
         explained_rows board rules walk is set (compare board walk rules) groups explain.are rows log e,
       )
 
-  -- if two sets of groups explain one log, they join the same nets
+  -- If two sets of groups explain one log, two walk nets are in one group of the first set if and only if they are in one group of the
+  -- second set.
   module _ (board : RawBoard) (walk : List Ctl) (log : List (List Bool))
       (groups others : List (List ℕ)) (rules : IsBoard board) (is : walk_setting board ≡ Some walk)
       (first : Explain board log groups) (second : Explain board log others) where

@@ -1,4 +1,4 @@
--- Proofs that the digits of a log's rows have the bits that the rows read at the compared positions.
+-- Proofs that the digits of a row of a log have the row's bits at the compared positions.
 use Rattle.std.proofs.Common.{◌≡◌, ◌⊎◌, inl, inr, ℕ, zero, suc, ◌+◌, ◌*◌, ◌/◌, ◌%◌, ◌<◌, ◌≤◌, ◌==◌, ◌^◌, Bool, true, false, ◌&&◌, List, [], ◌∷◌, length, get_or, min, Decides, refl, sym, ap, ◌∙◌, arith}
 use Rattle.std.specs.Int.{bit_at}
 use Rattle.std.specs.Int.Bits.{bit_and, bit_xor}
@@ -142,7 +142,7 @@ module _ (log : List (List Bool)) (mask : List Bool) (marks : List ℕ) (are : m
       kept = λ at on off. m.kept at (omega (arith, mask_within mask at on, count)) (one_is at false on off);
     }
 
--- two rows agree at the compared bits of a digit if and only if their difference, masked, is 0
+-- The digits `a` and `b` agree at each bit that is 1 in the mask digit `m` if and only if `a xor b`, masked with `m`, is 0.
 module _ (a b m k : ℕ) where
   masked_same : bit_and (bit_xor a b) m ≡ 0 → digit_bit m k ≡ true → digit_bit a k ≡ digit_bit b k
   masked_same none on =

@@ -1,4 +1,5 @@
--- Lemmas about the lists of the nets with each label, and about the groups that these lists give. A loop fills the lists net by net.
+-- Lemmas about the lists of the nets with each label, and about the groups that these lists give. A net's label is the place, in the list
+-- of walk nets, of the first walk net whose 1 the net reads. A loop fills the lists net by net.
 use Rattle.std.proofs.Common.{◌≡◌, ℕ, zero, suc, ◌+◌, ◌<◌, ◌==◌, Bool, cond, List, [], ◌∷◌, ◌++◌, length, map, take, replicate, Some, refl, sym, ap, ◌∙◌, subst, arith, append-nil}
 use Rattle.std.specs.Prelude.{slice_get, All}
 use Rattle.std.specs.List.{flat_map, range_with_len}

@@ -20,7 +20,8 @@ use Rattle.walk_test.proofs.CellLemmas.{WalkedBy}
 count_cons : {X : Type 0} (p : X → Bool) (x : X) (xs : List X) → count_by p (x ∷ xs) ≡ cond (p x) 1 0 + count_by p xs
 count_cons p x xs = sum_by-cons (λ y. cond (p y) 1 0) x xs
 
--- A list whose items have numbers from `k` on. The number of an item is kept if the item satisfies the test.
+-- The items of a list are numbered from `k` on. `q` returns for an item's number what `p` returns for the item. `kept` lists the numbers of
+-- the items that satisfy the test `p`.
 module _ {X : Type 0} (p : X → Bool) (q : ℕ → Bool) where
   abbrev Tests : ℕ → List X → Type 0
   Tests k xs = (i : ℕ) (x : X) → slice_get xs i ≡ Some x → q (k + i) ≡ p x

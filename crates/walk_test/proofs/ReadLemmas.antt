@@ -1,4 +1,5 @@
--- Lemmas about reading the rows of a log in turn, and about the labels that result.
+-- Lemmas about reading the rows of a log in turn, and about the labels that result. A net's label is the place, in the list of walk nets,
+-- of the first walk net whose 1 the net reads.
 use Rattle.std.proofs.Common.{◌≡◌, ◌⊎◌, inl, inr, ℕ, suc, ◌+◌, ◌<◌, ◌≤◌, ◌==◌, ◌^◌, Bool, true, false, cond, List, [], ◌∷◌, length, map, take, get_or, Decides, Some, nat_lt, replicate, refl, sym, ap, ◌∙◌, subst, arith}
 use Rattle.std.specs.Prelude.{slice_get, All, Contains}
 use Rattle.std.specs.Bool.{OnFalse, OnTrue}

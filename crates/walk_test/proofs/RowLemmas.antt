@@ -138,7 +138,7 @@ one_from {X} place f (x ∷ xs) s i e = by_later (one_from place f xs (set s (pl
     by_later (inl k) = by_place (cases_eq i (place x)) (cases_lt i (length s)) k
     by_later (inr (y, has, at, one)) = inr (y, inr has, at, one)
 
--- the driver cells by which a setting observes nets, and the cells that read each net
+-- the driver cells by which a setting observes nets, and the compared cells of each net
 pub record CellsOf (board : RawBoard) (walk : List Ctl) : Type 0 where
   pub drivers : List DriverCell
   pub only : (d : DriverCell) → Has drivers d → IsDriverCell board walk d
@@ -388,7 +388,8 @@ module _ (board : RawBoard) (rules : IsBoard board) (walk : List Ctl) (cells : C
       (tdo_compared board rules walk (λ n. Some (f n)) (bit f) cells.drivers cells.only
       cells.every (λ d has. refl) cells.readers cells.are)
 
-  -- `position` is the position of a compared cell, that is, of a cell that reads a net on a pin other than the observing driver's pin
+  -- `position` is the position of a compared cell. This is an INPUT, CLOCK or BIDIR cell of a receiver on an observed net. It is not on the
+  -- pin of the driver by which the setting observes the net.
   pub record ComparedAt (position : ℕ) : Type 0 where
     pub driver : DriverCell
     pub is_driver : IsDriverCell board walk driver

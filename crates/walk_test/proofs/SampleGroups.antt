@@ -30,7 +30,7 @@ use Rattle.walk_test.specs.GroupText.{groups_text}
 use Rattle.walk_test.specs.inner.Tables.{walk_row_of}
 use Rattle.walk_test.proofs.SampleTests.{two_passes, two_passes_nets}
 
--- the choice that gives 0 for every bit that the model of the board leaves open
+-- the choice in which every free bit of the model is 0
 abbrev all_off : Choice
 all_off =
     record {

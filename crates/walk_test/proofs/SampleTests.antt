@@ -1,4 +1,5 @@
--- Samples of the walking test of small boards and of the labels that logs give the nets. The expected values are worked out by hand.
+-- Samples of the walking test of small boards and of the labels that logs give the nets. A net's label is the place, in the list of walk
+-- nets, of the first walk net whose 1 the net reads. The expected values are worked out by hand.
 use Rattle.std.proofs.Common.{◌≡◌, Bool, true, false, List, [], ◌∷◌, map, Some, None, refl}
 use Rattle.std.specs.Prelude.{codes, slice_get}
 use Rattle.std.specs.Fmt.{digits}

@@ -1,4 +1,5 @@
--- Proofs that the labels of the walk nets give the only set of groups that explains a log.
+-- Proofs that the labels of the walk nets give the only set of groups that explains a log. A net's label is the place, in the list of walk
+-- nets, of the first walk net whose 1 the net reads.
 use Rattle.std.proofs.Common.{◌≡◌, inl, inr, ℕ, zero, suc, ◌<◌, ◌≤◌, ◌==◌, Bool, true, false, cond, ◌&&◌, List, [], ◌∷◌, length, take, map, get_or, Option, Some, None, Decides, refl, sym, ◌∙◌, ap, subst, arith}
 use Rattle.std.specs.Prelude.{◌↔◌, slice_get, count_by, All, Contains, Result, Ok, Err, IfOk, option_map}
 use Rattle.std.specs.List.{list_all}
@@ -324,7 +325,8 @@ module _ (safe : WalkSafe)
     some : (i : ℕ) (c : NetCells) → slice_get cells i ≡ Some c → 0 < length c.compared
     some i c e = let a : AreNetCells board walk (get_or nets i 0) c = are.are i (get_or nets i 0) c (net_at i c e) e in a.some
 
-    -- in each row, each compared cell of a net reads 1 if its net is joined with the net that carries 1, and otherwise 0
+    -- In each row, each compared cell of a net reads 1 if its net is the net that carries 1 or is in one group with that net. Otherwise the
+    -- cell reads 0.
     abbrev CellsJoined : List (List ℕ) → Type 0
     CellsJoined groups =
         (i j a b p : ℕ) (c : NetCells) → slice_get nets i ≡ Some a → slice_get cells i ≡ Some c
@@ -361,7 +363,8 @@ module _ (safe : WalkSafe)
         ap (λ (row : List Bool). get_or row r.position false) (sym (get_or_from_slice_get log j logged [] e))
         ∙ joined place.0 j d.net one r.position c place.1 stands at has
 
-    -- if each compared cell reads what the labels say, the groups of the labels explain the log
+    -- If each compared cell reads 1 exactly in the rows of nets with the label of its own net, the groups of nets with equal labels explain
+    -- the log.
     module _ (shape : All (λ row. length row ≡ data_bits board) log) (shows : ShowsLabels log labels cells) where
       abbrev own : (i k : ℕ) → slice_get labels i ≡ Some k → (k ≤ i) × (slice_get labels k ≡ Some k)
       own = own_label log cells long some shows
@@ -405,7 +408,7 @@ module _ (safe : WalkSafe)
                 (scans_by board o) log) (sym is) by_walk;
           }
 
-    -- if some set of groups explains the log, each compared cell reads what the labels say
+    -- If some set of groups explains the log, each compared cell reads 1 exactly in the rows of nets with the label of its own net.
     module _ (groups : List (List ℕ)) (explains : Explain board log groups) where
       ordered : AreOrdered groups
       ordered = groups_ordered board groups explains.are
@@ -479,7 +482,8 @@ module _ (safe : WalkSafe)
           ∙ sym (ap (λ (k : ℕ). k == label_of log d) (label_read i c ci))
           ∙ sym (ap (λ (k : ℕ). get_or labels i 0 == k) (label_read j d dj)))
 
-    -- If the log shows the labels, the groups of the labels are the set that explains the log. Otherwise no set of groups explains it.
+    -- If the log satisfies `ShowsLabels`, the groups of nets with equal labels are the set that explains the log. Otherwise no set of
+    -- groups explains it.
     pub found_by : All (λ row. length row ≡ data_bits board) log → (shown : Bool)
         → Decides shown (ShowsLabels log labels cells)
         → AreFound board log (cond shown (Some (groups_by nets labels)) None)

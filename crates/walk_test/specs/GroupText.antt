@@ -1,4 +1,4 @@
--- The text of a set of groups.
+-- The text of a set of groups. Each group consists of walk nets that are shorted together.
 use Rattle.board_defs.specs.Pins.{name_of, net_name}
 use Rattle.std.specs.Prelude.{ℕ, List, [], ◌∷◌, ◌++◌, length, codes, decimal, Option, Some, None, slice_get}
 use Rattle.std.specs.List.{flat_map}

@@ -1,4 +1,5 @@
--- Groups of walk nets, and the set of groups that explains a log of the walking test.
+-- Groups of walk nets, and the set of groups that explains a log of the walking test. A group consists of walk nets that are shorted
+-- together.
 use Rattle.std.specs.Prelude.{ℕ, suc, ◌<◌, ◌≤◌, ◌==◌, Bool, if◌then◌else◌, List, [], ◌∷◌, length, Option, Some, None, slice_index_or, All, AllPairs, Contains, MatchOption}
 use Rattle.std.specs.List.{list_any}
 use Rattle.board_defs.specs.declared.board.RawBoard.{RawBoard}
@@ -23,7 +24,7 @@ pub record AreGroups (board : RawBoard) (groups : List (List ℕ)) : Type 0 wher
   pub disjoint : AllPairs (λ one other. (n : ℕ) → Contains one n → Contains other n → ⊥) groups
   pub order : AllPairs (λ one other. least_of one < least_of other) groups
 
--- The number of the group that has the net, if there is such a group. The first group of the list has number k.
+-- The number of the group that has the net, if there is such a group. The groups of the list are numbered from `k` on.
 abbrev pub group_from : ℕ → List (List ℕ) → ℕ → Option ℕ
 group_from k [] n = None
 group_from k (group ∷ groups) n = if list_any (λ m. m == n) group then Some k else group_from (suc k) groups n

@@ -1,5 +1,5 @@
-// Finds the groups that explain a log. The label of a walk net is the place of the first walk net whose 1 the net
-// reads. Two or more nets with the same label are a group.
+// Finds the groups that explain a log. The label of a walk net is the place, in the list of walk nets, of the first
+// walk net whose 1 the net reads. Two or more nets with the same label are a group.
 ghost use Rattle.std.specs.Prelude.{◌≡◌, ◌<◌, ◌++◌, ◌==◌, length, map, All, option_map, IfOk, OnOk};
 ghost use Rattle.std.specs.List.{flat_map, range_with_len};
 ghost use Rattle.board_defs.specs.Pins.{data_bits};

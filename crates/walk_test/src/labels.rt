@@ -1,4 +1,4 @@
-// Finds the label of each walk net: the place of the first walk net whose 1 the net reads.
+// Finds the label of each walk net: the place, in the list of walk nets, of the first walk net whose 1 the net reads.
 ghost use Rattle.std.specs.Prelude.{◌≡◌, map, slice_index_or, IfOk, MatchOption};
 ghost use Rattle.std.specs.List.{list_all};
 ghost use Rattle.walk_test.specs.inner.Reading.{first_at, first_in, is_even, label_of, ShowsLabels};

@@ -2,7 +2,8 @@
 //! number of shorts of any number of nets at once.
 //!
 //! The walk nets are the nets that the test observes. In each row, one walk net carries 1 and all other walk nets carry
-//! 0. A net that reads the 1 of another net is in the same group as that net.
+//! 0. A net that reads the 1 of another net is in the same group as that net. A group consists of nets that are shorted
+//! together.
 #![tactic(auto)]
 
 mod digits;

@@ -1,4 +1,4 @@
-// Writes the text of a set of groups.
+// Writes the text of a set of groups. Each group consists of walk nets that are shorted together.
 ghost use Rattle.board_defs.specs.Pins.{net_name};
 ghost use Rattle.std.specs.Prelude.{◌≡◌, ◌++◌, [], length, option_map};
 ghost use Rattle.std.specs.List.{flat_map};
@@ -48,7 +48,7 @@ fn put_nets<K: Sink>(
     Ok(())
 }
 
-// Writes the lines of a group of these nets.
+// Writes the lines of the group that consists of these nets.
 fn put_members<K: Sink>(
     board: &Board,
     nets: &[u32],
@@ -104,11 +104,11 @@ fn put_all<K: Sink>(
     put_groups(board, groups, line, out)
 }
 
-/// Writes the groups that explain a log: their number, and for each group its size and its nets in net order. If `groups` is `None`, writes
-/// that no set of groups explains the log. For a number that no net of the board has, writes an empty name. Each line goes to the sink as
-/// one piece, but a line of more than `MAX_LINE` bytes goes out in pieces of `MAX_LINE` bytes and the rest. Allocates nothing. `line` is
-/// used as a buffer, and its content afterwards is unspecified. Fails only if the sink fails. In this case the sink took a prefix of the
-/// text.
+/// Writes the groups that explain a log: their number, and for each group its size and its nets in net order. If
+/// `groups` is `None`, writes that no set of groups explains the log. For a number that no net of the board has, writes
+/// an empty name. Each line goes to the sink in one call. A line of more than `MAX_LINE` bytes goes to the sink in
+/// calls of `MAX_LINE` bytes each, and a last call for the rest. Allocates nothing. `line` is used as a buffer, and its
+/// content afterwards is unspecified. Fails only if the sink fails. In this case the sink took a prefix of the text.
 pub fn write_groups<K: Sink>(
     board: &Board,
     groups: Option<&[Group]>,

@@ -67,7 +67,7 @@ fn net_cells(
     }
 }
 
-// Returns the nets below `count` that the walk setting observes.
+// Returns the numbers below `count` of the nets that the setting `walk` observes.
 fn nets_in(
     alloc: Global,
     pins: &NetPins,
@@ -83,7 +83,7 @@ fn nets_in(
     Ok(nets)
 }
 
-// Returns the cells of each of these nets.
+// Returns, for each of these nets, the positions of its driver cell and of its compared cells under the setting `walk`.
 fn all_cells(
     alloc: Global,
     pins: &NetPins,

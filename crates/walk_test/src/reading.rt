@@ -1,4 +1,4 @@
-// Reads the rows of a log in order, and finds the first row in which each compared position reads 1.
+// Reads the rows of a log in order. Finds, for each compared position, the first row in which the position reads 1.
 ghost use Rattle.std.specs.Prelude.{◌≡◌, ℕ, ◌<◌, nat_lt, length, map, slice_index_or, ◌↔◌, IsTrue, MatchBool};
 ghost use Rattle.std.specs.Bool.{OnFalse, OnTrue};
 ghost use Rattle.bt_bits.specs.Hex.{digit_count};
@@ -33,9 +33,10 @@ fn mark_row(firsts: &mut [u32], row: &MaskedRow<'_>, j: u32, none: u32) -> bool
     true
 }
 
-// Returns whether a group starts in row `j` of the log: position `at` is compared and reads 1, and no compared position
-// that reads 1 in row `j` has a row in `firsts` yet. If so, notes row `j` in `firsts` for all these positions. `j` must
-// be a row of the log. `firsts` must have an item for each position, which is `none` for a position without a row.
+// Returns whether a group starts in row `j` of the log. A group starts in a row if the nets that read 1 in this row
+// read no 1 in an earlier row: position `at` is compared and reads 1, and no compared position that reads 1 in row `j`
+// has a row in `firsts` yet. If so, notes row `j` in `firsts` for all these positions. `j` must be a row of the log.
+// `firsts` must have an item for each position, which is `none` for a position without a row.
 fn start_group(log: &WalkLog<'_>, firsts: &mut [u32], at: u32, j: u32, none: u32) -> bool
     requires row { j < length log.now.log }
     requires firsts { length firsts.old ≡ length log.now.mask }
@@ -58,7 +59,8 @@ fn are_same_rows(log: &WalkLog<'_>, j: u32, other: u32) -> bool
 
 // Reads row `j` of the log, in which the net with position `at` carries 1. Returns whether the row agrees with the
 // earlier rows. If the position reads 1 in an earlier row, row `j` must read the same as that row. Otherwise a group
-// starts with the net. `firsts` must have an item for each position.
+// must start in row `j`, and its positions then have row `j` in `firsts`. `j` must be a row of the log. `firsts` must
+// have an item for each position, which is `none` for a position without a row.
 fn read_row(log: &WalkLog<'_>, firsts: &mut [u32], at: u32, j: u32, none: u32) -> bool
     requires row { j < length log.now.log }
     requires firsts { length firsts.old ≡ length log.now.mask }

@@ -99,9 +99,9 @@ impl Walk {
         }
     }
 
-    /// Fills the rows with scan `k` of the walking test, counted from 0, and returns the scan's shape. The walk must be
-    /// made for `board`, and `k` must be below the number of scans. Each row must have room for a scan of instructions
-    /// and for a scan of data. Allocates nothing.
+    /// Fills the rows with scan `k` of the walking test, counted from 0, and returns its shape (whether it is an
+    /// instruction scan, and whether it compares a bit). The walk must be made for `board`, and `k` must be below the
+    /// number of scans. Each row must have room for a scan of instructions and for a scan of data. Allocates nothing.
     pub fn fill(&self, board: &Board, k: u64, tdi: &mut Row, tdo: &mut Row, mask: &mut Row) -> Shape
         requires walk { IsWalkOf board.now self.now }
         requires scan { k < count_walk_scans self.now }

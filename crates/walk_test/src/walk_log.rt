@@ -13,8 +13,8 @@ use response_log::Log;
 use std::alloc::{AllocError, Global};
 use std::marker::Model;
 
-/// A log, the cells of the nets whose rows the log has, and the compared bits of each row, which are the bits at the positions of
-/// these cells.
+/// A log, the cells of the nets whose rows the log has, and the mask of a row. Row `j` of the log is the row in which
+/// net `j` carries 1. The mask has a 1 at each compared position of these nets.
 #[derive(Drop)]
 pub struct WalkLog<'a> {
     log: &'a Log,

@@ -45,8 +45,8 @@ abbrev pub some_shows : List (List Bool) → ℕ → Bool → List ReaderCell �
 some_shows log row bit readers None = false
 some_shows log row bit readers (Some driver) = list_any (shows_beside log row bit driver) readers
 
--- Bit j of the word is 1 exactly if the pass has a row j, and in this row some cell that does not read the driver's pin has the bit `bit`.
--- If there is no driver, every bit of the word is 0.
+-- Bit j of the word is 1 if and only if the pass has a row j, and in this row some cell that does not read the driver's pin has the bit
+-- `bit`. If there is no driver, every bit of the word is 0.
 abbrev pub AreShownBits : RowsOfNet → Bool → Option ℕ → ℕ → Type 0
 AreShownBits rows bit driver word =
     (j : ℕ) → j < 32

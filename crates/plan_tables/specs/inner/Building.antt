@@ -41,7 +41,8 @@ observers board nets = gathered (observers_at board) 0 nets
 abbrev pub always_on_cells : List Observer → List DriverCell
 always_on_cells observers = map (λ x. x.cell) (filter (λ x. is_none x.control) observers)
 
--- appends the cell of each of these observers to the row of the observer's control
+-- appends the cell of each of these observers to the item of `rows` at the position of the observer's control; ignores observers without a
+-- control
 abbrev pub observers_noted : List (List DriverCell) → List Observer → List (List DriverCell)
 observers_noted rows observers = fold (λ done x. noted done x.control x.cell) rows observers
 

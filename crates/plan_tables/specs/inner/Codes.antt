@@ -46,12 +46,12 @@ marked_on board table flags pass =
     fold (λ done c. with_nets_marked done (controlled board table.rows c))
     (with_nets_marked flags table.always) pass
 
--- for each of the first `nets` nets, a flag that is true if the net has a driver cell that is steady or belongs to a pass
+-- for each of the first `nets` nets, whether the net has a cell in `steady`, or a driver cell that `table` gives for one of these passes
 abbrev pub seen_in : RawBoard → ℕ → List DriverCell → DriverTable → List (List Ctl) → List Bool
 seen_in board nets steady table passes = fold (marked_on board table) (with_nets_marked (replicate nets false) steady) passes
 
--- The nets with a flag have the codes 1, 2 and so on in net order, and the other nets have the code 0. `codes.count` is the number of nets
--- with a flag.
+-- The nets whose flag in `seen` is true have the codes 1, 2 and so on in net order, and the other nets have the code 0. `codes.count` is
+-- the number of flags that are true.
 pub record AreCodes (seen : List Bool) (codes : NetCodes) : Type 0 where
   pub count_is : codes.count ≡ count_by (λ b. b) seen
   pub length_is : length codes.codes ≡ length seen

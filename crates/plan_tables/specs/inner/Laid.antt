@@ -31,6 +31,6 @@ bits_of_parts g board = joined (parts_laid g 0 board.chain)
 abbrev pub steady : RawBoard → (Ctl → Bool) → ℕ → RawDevice → ℕ → Bool
 steady board setting part device cell = steady_bit board setting part device cell
 
--- the bit of a cell in the quiet row, in which no control is enabled
+-- the bit of a cell in the quiet row, which disables every driver that has a control
 abbrev pub quiet_bits : RawBoard → ℕ → RawDevice → ℕ → Bool
 quiet_bits board part device cell = steady_bit board (λ c. false) part device cell

@@ -14,9 +14,9 @@ use Rattle.plan_tables.specs.Tables.{PassCells, held_cell, ArePassCells}
 abbrev pub marked_held : List Bool → List HeldCell → List Bool
 marked_held flags held = assigned (λ h. h.position) (λ h. true) flags held
 
--- The run of a position is the number of passes, from the first on, that each have a control with its cell there. These are the runs after
--- pass `k`, which has such a control for this position. The run of the position grows by one if it is `k`, that is, if every earlier pass
--- has such a control.
+-- The run of a position is the largest number `r` for which each of the first `r` passes has a control with its cell there. These are the
+-- runs after pass `k`, which has such a control for this position. The run of the position grows by one if it is `k`, that is, if every
+-- earlier pass has such a control.
 abbrev pub run_at : ℕ → List ℕ → ℕ → List ℕ
 run_at k runs position = cond (slice_index_or runs position 0 == k) (slice_set runs position (suc k)) runs
 
@@ -35,11 +35,12 @@ held_by board quiet passes = map (λ pass. map (held_cell board quiet) pass) pas
 abbrev pub all_marked : RawBoard → List Bool → List Bool → List (List Ctl) → List Bool
 all_marked board quiet flags passes = fold (λ done pass. marked_held done (map (held_cell board quiet) pass)) flags passes
 
--- each pass in the run of a position has a control with its cell at that position
+-- if `runs` has `r` at a position, each of the first `r` passes has a control with its cell at that position
 abbrev pub AreRuns : List (List HeldCell) → List ℕ → Type 0
 AreRuns passes runs = (position x : ℕ) → x < slice_index_or runs position 0 → HoldsAt (slice_index_or passes x []) position
 
--- the flag of a position is set if some pass has a control with its cell there, and each pass in the run of a position has such a control
+-- The flag of a position is set if and only if some pass has a control with its cell there. If the run of a position is `r`, each of the
+-- first `r` passes has such a control.
 pub record AreUses (board : RawBoard) (quiet : List Bool) (passes : List (List Ctl)) (uses : Uses) : Type 0 where
   pub flags : uses.held ≡ all_marked board quiet (replicate (length quiet) false) passes
   pub runs : AreRuns (held_by board quiet passes) uses.runs
@@ -50,8 +51,8 @@ abbrev pub is_common : Uses → ℕ → Option ℕ → Bool
 is_common uses passes None = true
 is_common uses passes (Some control) = slice_index_or uses.runs control 0 == passes
 
--- The observer is steady: `passes` is not 0, no pass has a control with the observer's cell, and the observer has no control or the run of
--- its control is `passes`. If `passes` is the number of passes, every pass then enables the observer.
+-- The observer is steady: `passes` is not 0, no pass has the observer's own cell as a control, and the observer has no control or the run
+-- of its control's position is `passes`. If `passes` is the number of passes, every pass then enables the observer.
 abbrev pub is_steady : Uses → ℕ → Observer → Bool
 is_steady uses passes x = nat_lt 0 passes && (not (slice_index_or uses.held x.cell.position false) && is_common uses passes x.control)
 

@@ -14,7 +14,7 @@ driven board plan bit bits pass =
     fold (λ done c. assigned (λ d. d.position) bit done (controlled board plan.by_control.rows c))
     (assigned (λ d. d.position) bit bits plan.by_control.always) pass
 
--- the row after the bit of each of the pass's own drivers is set at the cells on other pins that read the driver's net
+-- the row after the bit of each of the pass's own drivers is set at the compared cells of the driver's net on other pins
 abbrev pub with_compared_bits : RawBoard → PlanTables → (DriverCell → Bool) → List Bool → List Ctl → List Bool
 with_compared_bits board plan bit bits pass =
     fold

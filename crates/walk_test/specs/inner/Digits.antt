@@ -1,4 +1,5 @@
--- Rows as the values of their digits, and the marks that a loop makes as it goes over a row.
+-- Rows as the values of their hexadecimal digits. A loop over a row notes the row's number for each compared position that reads 1 in the
+-- row.
 use Rattle.std.specs.Prelude.{◌≡◌, ℕ, ◌/◌, ◌%◌, ◌<◌, ◌≤◌, Bool, true, false, ◌&&◌, List, length, slice_index_or}
 use Rattle.std.specs.Int.Bits.{bit_and, bit_xor}
 use Rattle.bt_bits.specs.Digits.{digit_bit}

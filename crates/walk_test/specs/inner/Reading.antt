@@ -1,4 +1,5 @@
--- The labels of walk nets, the groups of these labels, and what a log must read to show them.
+-- The labels that a log gives the walk nets, the groups of nets with equal labels, and the bits that agree with labels. A net's label is
+-- the place, in the list of walk nets, of the first walk net whose 1 the net reads.
 use Rattle.std.specs.Prelude.{◌≡◌, ℕ, suc, ◌<◌, ◌≤◌, ◌==◌, nat_le, nat_lt, ◌^◌, Bool, true, false, if◌then◌else◌, ◌&&◌, ◌||◌, List, [], ◌∷◌, length, fold, replicate, Option, Some, None, slice_get, slice_index_or, All, Contains}
 use Rattle.std.specs.List.{list_all, flat_map, range_with_len}
 use Rattle.board_defs.specs.Pins.{is_same}

@@ -1,4 +1,5 @@
--- The plan, the nets with their cells, and the shared rows that a walk keeps of a board.
+-- The tables of a walk, as the code makes them: the plan, the nets with their cells, and the rows that all scans share. A walk is the
+-- walking test of one board.
 use Rattle.std.specs.Prelude.{◌≡◌, ℕ, zero, suc, ◌<◌, ◌≤◌, ◌==◌, Bool, false, not, List, [], length, map, filter, Option, Some, None, is_some, slice_get, slice_index_or}
 use Rattle.std.specs.List.{range_with_len}
 use Rattle.board_defs.specs.declared.board.RawBoard.{RawBoard}
@@ -77,11 +78,11 @@ walk_controls (Some walk) = walk
 abbrev pub walk_row_of : RawBoard → ℕ → TestRow
 walk_row_of board j = walk_row board (walk_controls (walk_setting board)) j
 
--- the row that scan j after the EXTEST codes shifts in
+-- the row that scan j after the EXTEST codes, counted from 0, shifts in
 abbrev pub now_of : RawBoard → ℕ → ℕ → TestRow
 now_of board count j = row_now (walk_row_of board) count j
 
--- the row that scan j after the EXTEST codes compares
+-- the row that scan j after the EXTEST codes, counted from 0, compares
 abbrev pub before_of : RawBoard → ℕ → TestRow
 before_of board j = row_before (walk_row_of board) j
 
@@ -93,15 +94,15 @@ pub record BoardWalk : Type 0 where
 abbrev pub board_walk : RawBoard → WalkTables → BoardWalk
 board_walk board tables = record { board = board; tables = tables }
 
--- the bits that scan j after the EXTEST codes shifts in
+-- the bits that scan j after the EXTEST codes, counted from 0, shifts in
 abbrev pub shifted_in : BoardWalk → ℕ → List Bool
 shifted_in it j = tdi_of it.board (now_of it.board (length it.tables.nets) j)
 
--- the bits that scan j after the EXTEST codes expects, with 0 at each position that the scan does not compare
+-- the bits that scan j after the EXTEST codes, counted from 0, expects, with 0 at each position that the scan does not compare
 abbrev pub walk_expected : BoardWalk → ℕ → List Bool
 walk_expected it j = tdo_of it.board (before_of it.board j)
 
--- a 1 for each position that scan j after the EXTEST codes compares
+-- a 1 for each position that scan j after the EXTEST codes, counted from 0, compares
 abbrev pub walk_mask : BoardWalk → ℕ → List Bool
 walk_mask it j = mask_of it.board (before_of it.board j)
 

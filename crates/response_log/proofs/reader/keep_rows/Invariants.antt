@@ -7,7 +7,7 @@ use Rattle.response_log.specs.Kept.{AreWhole, kept_rows, text_at}
 use Rattle.response_log.proofs.LineLemmas.{rows_after, lines_left, IsBehind}
 use Rattle.response_log.proofs.reader.keep_rows.Given as goal
 
--- the whole text gives the same log or fault as the remaining lines after the kept rows
+-- The whole text gives the same log or fault as the rows that were read so far, followed by the remaining lines.
 abbrev pub invariant-loop-next : goal.invariant-loop-next
 invariant-loop-next l = record {
   said : log_rows l.initial.text l.rows l.len

@@ -3,6 +3,6 @@ use Rattle.std.specs.List.{range_with_len}
 use Rattle.walk_test.specs.inner.Reading.{members}
 use Rattle.walk_test.proofs.grouping.all_members.Given as goal
 
--- for each label, the list of the label has the nets before net `i` with this label
+-- list `k` has the nets with label `k`, of the nets before place `i`
 abbrev pub invariant-loop-i : goal.invariant-loop-i
 invariant-loop-i l = l.lists.items ≡ map (members (take l.i l.nets) (take l.i l.labels)) (range_with_len 0 (length l.labels))

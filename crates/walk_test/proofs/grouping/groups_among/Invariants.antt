@@ -6,7 +6,7 @@ use Rattle.walk_test.specs.Groups.{Rise}
 use Rattle.walk_test.specs.inner.Reading.{where_several}
 use Rattle.walk_test.proofs.grouping.groups_among.Given as goal
 
--- the groups are the lists with two or more nets, among the lists that the loop has handled
+-- the groups found so far are the lists with two or more nets, of the lists that the loop has handled
 abbrev pub invariant-loop-list : goal.invariant-loop-list
 invariant-loop-list l = record {
   all : l.yielded ++ into_iter_items l.list-iterator ≡ into_iter_items l.initial.list-iterator;

@@ -3,7 +3,7 @@ use Rattle.walk_test.specs.GroupText.{group_text}
 use Rattle.line_printer.proofs.PutLemmas.{Completes, texts_after}
 use Rattle.walk_test.proofs.listing.put_groups.Given as goal
 
--- the text so far, followed by the text of the remaining groups, is the text of all groups
+-- The text written so far, followed by the texts of the remaining groups, is the text of all groups.
 abbrev pub invariant-loop-group : goal.invariant-loop-group
 invariant-loop-group g l =
     Completes (g.K.Sink.shown l.fn.out) (g.K.Sink.shown l.out)

@@ -3,7 +3,7 @@ use Rattle.walk_test.specs.GroupText.{net_line}
 use Rattle.line_printer.proofs.PutLemmas.{Completes, texts_after}
 use Rattle.walk_test.proofs.listing.put_nets.Given as goal
 
--- the text so far, followed by the text of the remaining nets, is the text of all nets
+-- The text written so far, followed by the lines of the remaining nets, is the text of the lines of all nets.
 abbrev pub invariant-loop-n : goal.invariant-loop-n
 invariant-loop-n g l =
     Completes (g.K.Sink.shown l.fn.out) (g.K.Sink.shown l.out)
