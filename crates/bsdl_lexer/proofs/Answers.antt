@@ -23,7 +23,7 @@ Walk text place line [] to last_line = (place ≡ to) × (line ≡ last_line)
 Walk text place line (token ∷ tokens) to last_line =
     (step text place line ≡ Ok (Some token)) × Walk text token.«end» token.line tokens to last_line
 
--- `answer` is the answer to a text with these tokens if the step after them has this result
+-- if the lexer's steps find these tokens and the next step has this result, `answer` is the answer to the text
 abbrev pub Ends : Result (Option Token) LexFault → List Token → Result (Unit {0}) LexFault → Type 0
 Ends (Ok None) tokens answer = answer ≡ Ok tt
 Ends (Ok (Some token)) tokens answer = (length tokens ≡ token_limit) × (answer ≡ Err (TooMany token.line))
@@ -99,7 +99,8 @@ pub walk_on : (text : List ℕ) (tokens : List Token) (place line to last_line :
 walk_on text [] place line to last_line token w e = (ap (λ n. step text n line) w.0 ∙ ap (step text to) w.1 ∙ e, (refl, refl))
 walk_on text (first ∷ tokens) place line to last_line token w e = (w.0, walk_on text tokens first.«end» first.line to last_line token w.1 e)
 
--- A walk from `place` on `line` finds these tokens and ends at `to`, on the line of `to`. There is only a gap between `to` and `stop`.
+-- A walk from `place` on `line` finds these tokens and ends at `to`, on the line of `to`. There is only a gap (blanks
+-- and comments) between `to` and `stop`.
 record Walked (text : List ℕ) (place line : ℕ) (tokens : List Token) (stop : ℕ) : Type 0 where
   to : ℕ
   last_line : ℕ
@@ -197,8 +198,8 @@ answer_lexed text tokens (Err (TooMany line)) (at, s, b, full) =
     (full, ap (λ n. Err (TooMany n)) s.line_is)
 answer_lexed text tokens (Err (Memory error)) h = absurd h
 
--- two walks from the same place are equal, or one of them stops although the next step finds a token
--- there, and the other has more tokens
+-- Two walks from the same place are equal, or one of them has fewer tokens. The walk with fewer tokens stops at a place
+-- from which the next step finds a token.
 data Compared (text : List ℕ) (tokens others : List Token) (to line to' line' : ℕ) : Type 0 where
   same : tokens ≡ others → to ≡ to' → line ≡ line' → Compared text tokens others to line to' line'
   first_stops : (token : Token) → step text to line ≡ Ok (Some token)
@@ -279,7 +280,7 @@ pub record WalksTo (text : List ℕ) (tokens : List Token) (to line : ℕ) : Typ
   pub walk : Walk text 0 1 tokens to line
   pub limit : length tokens ≤ token_limit
 
--- steps find an answer that begins with these tokens
+-- the lexer's steps find an answer whose tokens begin with these tokens
 abbrev Completed : List ℕ → List Token → Type 0
 Completed text tokens = (more : List Token) × (answer : Result (Unit {0}) LexFault) × Lexed text (tokens ++ more) answer
 

@@ -1,5 +1,5 @@
--- `gap_len` is the length of a gap at the front after which no other gap begins. Every gap at the
--- front with this property has this length.
+-- A gap consists of blanks and comments. `gap_len` is the length of a gap at the front, and no blank or comment begins
+-- after this gap. Every gap at the front with this property has this length.
 use Rattle.std.proofs.Common.{◌≡◌, ℕ, suc, ◌+◌, ◌≤◌, List, [], ◌∷◌, ◌++◌, length, take, drop, Bool, true, false, ◌&&◌, ◌||◌, not, ◌==◌, cond, IsTrue, ◌⊎◌, inl, inr, refl, sym, ◌∙◌, ap, subst, arith, append_assoc, append-nil, length-append, nat_eq}
 use Rattle.std.proofs.lemmas.Bool.Decides.{nat_tests}
 use Rattle.std.specs.List.{list_all}
@@ -10,7 +10,8 @@ use Rattle.bsdl_lexer.specs.inner.Lengths.{gap_len}
 abbrev pub stays : ℕ → Bool
 stays byte = not (byte == line_feed)
 
--- the bytes are the rest of a comment, followed by a gap, or the rest of a comment that ends with the text
+-- `rest` is the rest of a comment, and then a gap in front of `more`. If the comment ends with the text, `rest` is only
+-- the rest of the comment, and `more` is empty.
 record CommentRest (more rest : List ℕ) : Type 0 where
   words : List ℕ
   tail : List ℕ

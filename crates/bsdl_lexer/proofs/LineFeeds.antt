@@ -1,4 +1,4 @@
--- Tokens have no line feeds, so lines end only between tokens.
+-- Tokens contain no line feeds, so lines end only between tokens.
 use Rattle.std.proofs.Common.{◌≡◌, ℕ, ◌+◌, List, [], ◌∷◌, ◌++◌, Bool, true, false, inl, inr, refl, ◌∙◌, ap, arith, nat_eq, cond, sym}
 use Rattle.std.proofs.lemmas.Bool.Decides.{nat_tests}
 use Rattle.std.proofs.lemmas.List.Sums.{sum_by-cons, sum_by-append}

@@ -1,4 +1,4 @@
--- Either a string token or a string that is not closed begins at a quote.
+-- If the first byte is a quote, then either a string token or a string that is not closed begins there.
 use Rattle.std.proofs.Common.{◌≡◌, ℕ, suc, List, [], ◌∷◌, ◌++◌, Bool, true, false, cond, Option, Some, None, ◌⊎◌, inl, inr, refl, sym, ◌∙◌, ap, arith, nat_eq, slice_get, IsTrue}
 use Rattle.std.proofs.lemmas.Bool.Decides.{nat_tests}
 use Rattle.std.specs.List.{prefix_len, list_all}
@@ -9,7 +9,7 @@ use Rattle.bsdl_lexer.specs.Forms.{begins_gap, is_text_byte, line_feed, carriage
 use Rattle.bsdl_lexer.specs.Answer.{BeginsOpenText, EndsOpen}
 use Rattle.bsdl_lexer.specs.inner.Lengths.{token_at, closed_len}
 
--- the byte after the longest prefix of bytes that a string may have, or None if the list ends there
+-- the first byte that may not be in a string, or None if there is no such byte
 byte_behind : List ℕ → Option ℕ
 byte_behind others = slice_get others (prefix_len is_text_byte others)
 
@@ -46,8 +46,8 @@ line_end x h n = go (nat_eq x line_feed) refl
     go true e = inl (grind (arith, nat_tests))
     go false e = inr (grind (arith, nat_tests))
 
--- the bytes after a quote are bytes that a string may have, followed by a line end or by the end of
--- the text
+-- These bytes come after an opening quote, and the string is not closed. `inner` has only bytes that may be in a
+-- string, and `more`, the rest, begins with a line end or is empty.
 record Open (others : List ℕ) : Type 0 where
   inner : List ℕ
   more : List ℕ

@@ -1,4 +1,5 @@
--- `gap_len` and `token_at` find the gaps and tokens that a text has at its places.
+-- `gap_len` finds the gap (blanks and comments) at a place of a text, and `token_at` finds the token at a place, if
+-- there is one. Each gap and each token that they find is a gap or a token of the text.
 use Rattle.std.proofs.Common.{◌≡◌, ℕ, zero, suc, ◌+◌, ◌-◌, ◌<◌, ◌≤◌, List, [], ◌∷◌, ◌++◌, length, take, drop, true, false, refl, sym, ◌∙◌, ap, subst, arith, length-drop, ◌⊎◌, inl, inr}
 use Rattle.std.proofs.lemmas.Bool.{cases_lt}
 use Rattle.std.proofs.lemmas.Bool.Decides.{nat_tests}

@@ -1,4 +1,4 @@
--- The answer to a text: all its tokens, or the tokens before its first fault and this fault.
+-- The answer to a text. It is either all tokens of the text, or its first fault and the tokens before this fault.
 use Rattle.std.specs.Prelude.{◌≡◌, ◌≢◌, ℕ, ◌≤◌, List, [], ◌∷◌, ◌++◌, length, take, drop, false, ◌⊎◌, IsTrue, Option, Some, None, Result, Ok, Err}
 use Rattle.std.specs.List.{list_all}
 use Rattle.bsdl_lexer.specs.declared.token.Token.{Token}
@@ -16,14 +16,14 @@ pub record BeginsToken (rest : List ℕ) : Type 0 where
   pub form : HasForm kind (take len rest)
   pub no_comment : begins_comment rest ≡ false
 
--- a string that is open before these bytes is never closed: there are no more bytes, or the next
--- byte ends the line (byte 10 or byte 13)
+-- a string that is open before these bytes is not closed on its line: there are no more bytes, or the next byte is a
+-- line feed (10) or a carriage return (13)
 abbrev pub EndsOpen : List ℕ → Type 0
 EndsOpen [] = Unit {0}
 EndsOpen (byte ∷ others) = (byte ≡ line_feed) ⊎ (byte ≡ carriage_return)
 
--- a string begins at the front but is not closed: after its quote, bytes that a string may have
--- reach to the end of the line or of the text
+-- A string begins at the front but is not closed. Its opening quote is followed only by bytes that may be in a string,
+-- up to the end of the line or of the text.
 pub record BeginsOpenText (rest : List ℕ) : Type 0 where
   pub inner : List ℕ
   pub more : List ℕ
@@ -40,8 +40,8 @@ pub record BeginsNothing (rest : List ℕ) : Type 0 where
   pub no_token : BeginsToken rest → ⊥
   pub no_text : first ≢ quote
 
--- Before `place`, the text consists of these tokens and of gaps. There are at most `token_limit`
--- tokens, and `line` is the line of `place`.
+-- The text before `place` consists of these tokens, with gaps (blanks and comments) before, between and after them.
+-- There are at most `token_limit` tokens, and `line` is the line of `place`.
 pub record StopsAt (text : List ℕ) (tokens : List Token) (place line : ℕ) : Type 0 where
   pub before : Stand text 0 tokens place
   pub limit : length tokens ≤ token_limit

@@ -112,8 +112,8 @@ abbrev pub begins_gap : List ℕ → Bool
 begins_gap [] = false
 begins_gap (first ∷ others) = is_bsdl_blank first || begins_comment (first ∷ others)
 
--- Blanks and whole comments in front of the bytes `more`. A comment ends with its line or with the
--- text.
+-- These bytes are blanks and whole comments, and `more` is the rest of the text after them. A comment ends with its
+-- line or with the text.
 pub data IsGap (more : List ℕ) : List ℕ → Type 0 where
   nothing : IsGap more []
   blank : (byte : ℕ) (gap : List ℕ) → IsTrue (is_bsdl_blank byte) → IsGap more gap → IsGap more (byte ∷ gap)

@@ -28,7 +28,7 @@ pub record IsToken (text : List ℕ) (token : Token) : Type 0 where
   pub no_comment : begins_comment (drop token.start text) ≡ false
   pub line : token.line ≡ line_of_place text token.start
 
--- From place `from` to place `to`, the text consists of these tokens, with optional gaps before,
+-- From place `from` to place `to`, the text consists of these tokens, with optional gaps (blanks and comments) before,
 -- between and after them.
 abbrev pub Stand : List ℕ → ℕ → List Token → ℕ → Type 0
 Stand text from [] to = Separates text from to

@@ -102,8 +102,8 @@ fn fraction_length(bytes: &[u8]) -> usize
     }
 }
 
-/// Returns the length of an exponent, including its letter, which is the byte before `bytes`.
-/// Returns 0 if `bytes` does not begin with an optional sign and digits.
+/// Returns the length of the exponent whose letter is the byte before `bytes`. The length includes the letter. Returns
+/// 0 if `bytes` does not begin with an optional sign and digits.
 fn signed_length(bytes: &[u8]) -> usize
     ensures value { result ≡ signed_len bytes.now }
     ensures within { result ≤ 1 + length bytes.now }
@@ -156,8 +156,7 @@ fn closed_text(bytes: &[u8]) -> Option<(TokenKind, usize)>
     }
 }
 
-/// Returns the kind of the token at the front and its length in bytes, or None if no token begins
-/// there.
+/// Returns the kind and the length in bytes of the token at the front of `bytes`, or None if no token begins there.
 pub(crate) fn token_found(bytes: &[u8]) -> Option<(TokenKind, usize)>
     ensures value { result ≡ token_at bytes.now }
     ensures within { IfSome result (λ found. found.1 ≤ length bytes.now) }
@@ -182,9 +181,9 @@ pub(crate) fn token_found(bytes: &[u8]) -> Option<(TokenKind, usize)>
     }
 }
 
-/// Takes one step through a gap. Returns None if the first byte of `bytes` does not belong to the
-/// gap. Otherwise returns whether the byte after it is inside a comment. `in_comment` says whether
-/// the first byte is inside a comment.
+/// Takes one step through a gap. Returns None if the first byte of `bytes` does not belong to the gap. Otherwise
+/// returns whether the byte after it is inside a comment. `in_comment` says whether the first byte is inside a comment.
+/// The line feed that ends a comment counts as inside the comment.
 fn gap_step(in_comment: bool, bytes: &[u8]) -> Option<bool>
     ensures { MatchOption result (gap_len in_comment bytes.now ≡ 0)
         (λ next. (0 < length bytes.now)
@@ -214,7 +213,7 @@ pub(crate) struct Gap {
     pub lines: u32,
 }
 
-/// Returns the gap at the front of `bytes`, which may be empty. `bytes` must be shorter than 2^32.
+/// Returns the gap at the front of the text. The gap may be empty.
 pub(crate) fn gap_at(text: TextSlice<'_>) -> Gap
     ensures length { result.length ≡ gap_len false text.entry.items.now }
     ensures within { result.length ≤ length text.entry.items.now }

@@ -24,9 +24,9 @@ fn fault_at(byte: u8, line: u32) -> LexFault
     }
 }
 
-/// Returns the token at the front of `bytes`, which begin at place `start` of the text, on line
-/// `line`. Returns None if `bytes` is empty, and a fault if no token begins there. `start` plus the
-/// length of `bytes` must be below 2^32.
+/// Returns the token at the front of `bytes`. `bytes` is the rest of the text from byte `start` on, and that byte is on
+/// line `line`. Returns None if `bytes` is empty. Returns a fault if `bytes` is not empty and no token begins at its
+/// front. `start` plus the length of `bytes` must be below 2^32.
 fn token_from(bytes: &[u8], start: usize, line: u32) -> Result<Option<Token>, LexFault>
     requires { start + length bytes.now < 2 ^ 32 }
     ensures { result ≡ step_at start line bytes.now }
@@ -45,9 +45,9 @@ fn token_from(bytes: &[u8], start: usize, line: u32) -> Result<Option<Token>, Le
     }
 }
 
-/// Returns the next token at or after `place`, which is on line `line`. Returns None if only blanks
-/// and comments are left, and a fault if something else comes before the next token. `bytes` must
-/// be shorter than 2^32, `place` must be at most its length, and `line` at most `1 + place`.
+/// Returns the next token at or after byte `place` of the text, which is on line `line`. Returns None if only blanks
+/// and comments are left, and a fault if no token begins after the blanks and comments. `place` must be at most the
+/// length of the text, and `line` at most `1 + place`.
 fn next_token(text: TextSlice<'_>, place: usize, line: u32) -> Result<Option<Token>, LexFault>
     requires within { place ≤ length text.items.now }
     requires few { line ≤ 1 + place }
@@ -99,8 +99,8 @@ fn add_tokens(text: TextSlice<'_>, out: &mut Vec<Token>) -> Result<(), LexFault>
     Ok(())
 }
 
-/// Appends the tokens of the text to `out`, which must be empty. The text may contain any bytes,
-/// but must be shorter than 2^32.
+/// Appends the tokens of the text to `out`, which must be empty. The text may contain any bytes, but must be shorter
+/// than 2^32 bytes.
 ///
 /// On a fault of the text, `out` contains the tokens before the place of the fault. If memory runs
 /// out, `out` contains the first tokens of the text.

@@ -25,15 +25,15 @@ pub struct Token {
     pub line: u32,
 }
 
-/// The reason why a text has no complete list of tokens: the text's first fault, with its line,
-/// counted from 1; or lack of memory.
+/// The reason why the lexer did not find all tokens of a text. It is either the first fault of the text, with its line,
+/// counted from 1, or lack of memory.
 #[derive(Clone, Copy, Debug, PartialEq, Eq, Error)]
 pub enum LexFault {
     /// A byte other than a quote, at which no blank, comment or token begins.
     #[error("line {0}: byte not allowed")]
     Byte(u32),
-    /// In a string, byte 10, byte 13 or the end of the text comes before the closing quote. The
-    /// line is the line of the first quote.
+    /// In a string, a line feed (10), a carriage return (13) or the end of the text comes before the closing quote. The
+    /// line is the line of the opening quote.
     #[error("line {0}: string not closed")]
     OpenString(u32),
     /// Another token follows the first `TOKEN_LIMIT` tokens. The line is the line of that token.

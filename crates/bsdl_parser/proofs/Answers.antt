@@ -22,7 +22,7 @@ use Rattle.bsdl_parser.proofs.Decided.{decides_file}
 use Rattle.bsdl_parser.proofs.AttributeKinds.{have_kinds}
 use Rattle.bsdl_parser.proofs.Sizes.{is_small}
 
--- `xs` followed by `token` is also `ys` followed by `rest`, and `rest` contains at least `token`
+-- `xs` is `ys` followed by `middle`, and `rest` is `middle` followed by `token`
 pub record Halves (xs ys : List Lexeme) (token : Lexeme) (rest : List Lexeme) : Type 0 where
   pub middle : List Lexeme
   pub front : xs ≡ ys ++ middle

@@ -24,7 +24,7 @@ use Rattle.bsdl_parser.specs.Entity.{is_number_among, port_attributes, number_at
 abbrev Yields : {A : Type 0} → Phrase A → (A → Type 0) → Type 0
 Yields g Fact = (n : ℕ) → Keeps (λ token. 0) g n (λ m a. Fact a)
 
--- attributes with this number have values of this form
+-- the attribute with this number has a value of this form
 abbrev FitsForm : ℕ → AttrForm → Type 0
 FitsForm number forms.Plain = number ≡ attribute_number attributes.PinMap
 FitsForm number forms.Port = IsTrue (is_number_among port_attributes number)

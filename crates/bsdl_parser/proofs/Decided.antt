@@ -1,5 +1,5 @@
--- Each repetition in the grammar of a file takes at least one token. So the grammar's reader finds
--- the entity of every file, and refuses all other token lists.
+-- Each turn of each repetition in the grammar of a file takes at least one token. So the grammar's reader finds the
+-- entity of each token list that the grammar derives, and refuses every other token list.
 use Rattle.std.proofs.Common.{ℕ, List, Bool, true, false, Option, Some, None, inl, inr}
 use Rattle.bsdl_parser.specs.declared.entity.Attribute.{Attribute}
 use Rattle.bsdl_parser.specs.declared.draft.ItemWord.{ItemWord}

@@ -1,4 +1,5 @@
--- If one repetition of a loop stops at a token, the loop stops at this token.
+-- If the reading of one turn stops at a token that does not fit, the reading of the whole repetition stops at this
+-- token.
 use Rattle.std.proofs.Common.{◌≡◌, List}
 use Rattle.grammars.specs.Turn.{Turn}
 use Rattle.grammars.specs.inner.Reader.{Outcome}

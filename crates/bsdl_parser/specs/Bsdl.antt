@@ -22,7 +22,7 @@ use Rattle.grammars.specs.Values.{some_if}
 use Rattle.bsdl_parser.specs.AttributeNumbers.{attribute_number}
 use Rattle.bsdl_parser.specs.Places.{Phrase, is_word_token, keyword, mark, either_word, either_mark, any_word, any_number, any_text, integer, mode, other_than, word_or_mark}
 
--- string = text { "&" text }, followed by the mark `close`
+-- string = text { "&" text }, followed by the mark `close`; a text is one string token
 unfoldable pub string_piece : List ℕ → List ℕ → Phrase (Turn (List ℕ) (List ℕ))
 string_piece close before = do
   piece ← any_text
@@ -69,7 +69,7 @@ range = do
   _ ← mark (codes ")")
   done (record { left = left; right = right; up = up })
 
--- type = "bit" | "bit_vector" "(" integer ("to" | "downto") integer ")", after its word
+-- type = "bit" | "bit_vector" "(" integer ("to" | "downto") integer ")", after its first word
 abbrev pub range_of : Bool → Phrase (Option Range)
 range_of false = done None
 range_of true = do
@@ -210,7 +210,7 @@ skipped_token before = do
   goes_on ← other_than (codes ";")
   done (turn_of goes_on tt)
 
--- used ";" | other { any token but ";" } ";", after the attribute's name
+-- the rest of an attribute item after the attribute's name, which is { any token but ";" } ";" if this program does not use the attribute
 abbrev pub attribute_of : Option (Attribute × AttrForm) → Phrase (Option Attr)
 attribute_of None = do
   _ ← turns skipped_token tt
@@ -224,7 +224,8 @@ attribute_name = do
   name ← any_word
   done (used name)
 
--- attribute = "attribute" used ";" | "attribute" other { any token but ";" } ";", after its first word
+-- attribute = "attribute" used ";" | "attribute" other { any token but ";" } ";", after its first word. "used" is the
+-- name and the value of an attribute that this program uses, and "other" is the name of any other attribute.
 unfoldable pub attribute : Phrase (Option Attr)
 attribute = do
   known ← attribute_name
@@ -281,7 +282,7 @@ item_after before words.Attribute = do
   done (again (record before { attributes = before.attributes ++ listed one }))
 item_after before words.End = done (last before)
 
--- item = generic | port | use | constant | attribute
+-- item = generic | port | use | constant | attribute; the word "end" instead of an item ends the items
 unfoldable pub item : Items → Phrase (Turn Items Items)
 item before = do
   first ← item_begin before

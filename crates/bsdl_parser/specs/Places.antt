@@ -1,5 +1,5 @@
--- Grammars of one token each. A grammar says which tokens it accepts, and what value an accepted
--- token has.
+-- Grammars of one token each. A mark is a token that is one punctuation character. A grammar says which tokens it
+-- accepts, and what value an accepted token has.
 use Rattle.std.specs.Prelude.{ℕ, ◌-◌, List, length, Bool, true, false, ◌&&◌, if◌then◌else◌, Option, Some, None, codes}
 use Rattle.std.specs.List.{slice_range}
 use Rattle.std.specs.Str.{bytes_eq}
@@ -70,7 +70,7 @@ any_text = place (λ token. some_if (is_text token.kind) (contents token.spelled
 abbrev pub integer : Phrase ℕ
 integer = place (λ token. some_if (is_number_token token.kind && is_integer token.spelled) (digits_value token.spelled))
 
--- "in" | "out" | "inout" | "buffer" | "linkage"
+-- the mode that this word names, if it names one; the word is in upper case
 abbrev pub mode_of : List ℕ → Option Mode
 mode_of word =
     if bytes_eq word (codes "IN") then Some Inward else

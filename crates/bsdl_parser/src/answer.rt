@@ -25,8 +25,7 @@ fn count_line_feeds(bytes: &[u8]) -> usize
     bytes.iter().filter(|byte| **byte == b'\n').count()
 }
 
-/// Returns the line of the text's last byte, or 1 for an empty text. The text must be shorter than
-/// 2^32 bytes.
+/// Returns the line of the text's last byte, counted from 1, or 1 for an empty text.
 fn last_line_of(text: TextSlice<'_>) -> u32
     ensures { result ≡ last_line text.entry.items.now }
 {

@@ -1,4 +1,5 @@
-//! A cursor that reads the tokens of a text from the first to the last. A mark is a token of punctuation.
+//! A cursor that reads the tokens of a text from the first to the last. A mark is a token that is one punctuation
+//! character.
 ghost use Rattle.std.specs.Prelude.{◌≡◌, map, length};
 ghost use Rattle.std.specs.Char.{to_ascii_uppercase};
 ghost use Rattle.grammars.specs.Grammar.{reader_of_grammar};
@@ -21,8 +22,8 @@ pub(crate) struct Front {
     pub line: u32,
 }
 
-/// The tokens of `text` that the cursor has not read, and the allocator for the values that the
-/// cursor makes from tokens.
+/// A cursor in the tokens of `text`. `rest` has the tokens that it has not read yet. `alloc` allocates the values that
+/// it makes from tokens.
 #[derive(Drop)]
 pub(crate) struct Cursor<'a> {
     alloc: Global,
@@ -230,7 +231,7 @@ impl<'a> Cursor<'a> {
         }
     }
 
-    /// Reads any token. Returns false if the token was the mark `name`.
+    /// Reads any token. Returns false if the token was the mark `name`, and otherwise true.
     pub(crate) fn other_than(&mut self, name: &[u8]) -> Result<bool, Stop>
         ensures { ReadsTokens (reader_of_grammar (places.other_than name.now)) self.old self.new
             result (λ x. x) }

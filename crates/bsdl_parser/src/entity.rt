@@ -13,7 +13,7 @@ pub struct Range {
     pub up: bool,
 }
 
-/// A port in the port item. A port without a range has one bit.
+/// A port of the entity. A port without a range has one bit.
 #[derive(Drop)]
 pub struct Port {
     pub name: Name,
@@ -21,8 +21,8 @@ pub struct Port {
     pub range: Option<Range>,
 }
 
-/// A pin map. `name` is the constant's name, which names a package. `text` is the constant's
-/// string.
+/// A constant that is a pin map. `name` is the constant's name, which is also the name of a package. `text` is the
+/// constant's string.
 #[derive(Drop)]
 pub struct Constant {
     pub name: Name,

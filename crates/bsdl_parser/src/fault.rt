@@ -2,11 +2,11 @@
 use std::alloc::AllocError;
 use thiserror::Error;
 
-/// The first fault of a text that is not in the grammar, with the fault's line, or lack of memory.
+/// The first fault of a text that is not in the grammar, with the fault's line, counted from 1, or lack of memory.
 #[derive(Clone, Copy, Debug, PartialEq, Eq, Error)]
 pub enum ParseFault {
-    /// Either the token on this line does not continue any file of the grammar, or the text ends
-    /// inside a file and this is its last line.
+    /// Either a token on this line is the first that cannot continue a file of the grammar, or the text ends before the
+    /// file is complete and this is its last line.
     #[error("line {0}: not in the grammar")]
     Expected(u32),
     /// The word `package` is the first token of the text, or the first token after a whole file.

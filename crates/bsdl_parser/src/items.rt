@@ -1,4 +1,4 @@
-//! Reads the items of a file.
+//! Reads the items of a file: generic, port, use, constant and attribute items.
 ghost use Rattle.std.specs.Prelude.{◌≡◌, map};
 ghost use Rattle.std.specs.Char.{to_ascii_uppercase};
 ghost use Rattle.grammars.specs.Turn.{turn_of};

@@ -1,4 +1,5 @@
-//! Reads the port item, which consists of groups of ports.
+//! Reads the port item. It consists of groups. A group declares one or more ports, which have the same mode and the
+//! same range.
 ghost use Rattle.std.specs.Prelude.{◌≡◌, ◌++◌, [], OnOk};
 ghost use Rattle.grammars.specs.Turn.{turn_of};
 ghost use Rattle.grammars.specs.Grammar.{turns, reader_of_grammar};
@@ -27,7 +28,8 @@ fn add_ports(
 }
 
 impl<'a> Cursor<'a> {
-    /// Reads one name and adds it to `names`. Returns whether another name follows.
+    /// Reads one name and the mark after it, which is `,` or `:`. Adds the name to `names`. Returns whether another
+    /// name follows.
     #[tactic(auto, unfolding(crate::specs::Bsdl::port_name))]
     fn port_name(&mut self, names: &mut Vec<Name>) -> Result<bool, Stop>
         ensures { ReadsTokens (reader_of_grammar (port_name names.old.items)) self.old self.new
@@ -70,7 +72,8 @@ impl<'a> Cursor<'a> {
         }
     }
 
-    /// Reads one group and adds its ports to `ports`. Returns whether another group follows.
+    /// Reads one group and the mark after it, which is `;` or `)`. Adds the ports of the group to `ports`. Returns
+    /// whether another group follows.
     #[tactic(auto, unfolding(crate::specs::Bsdl::port_group, crate::specs::Bsdl::group))]
     fn port_group(&mut self, ports: &mut Vec<Port>) -> Result<bool, Stop>
         ensures { ReadsTokens (reader_of_grammar (port_group ports.old.items)) self.old self.new

@@ -19,7 +19,8 @@ fn upper(mut content: Vec<u8>) -> Name
 }
 
 impl<'a> Cursor<'a> {
-    /// Reads one string token and appends its bytes to `content`. Returns whether another string token follows.
+    /// Reads one string token and the mark after it, which is `&` or `close`. Appends the bytes between the token's
+    /// quotes to `content`. Returns whether another string token follows.
     #[tactic(auto, unfolding(crate::specs::Bsdl::string_piece))]
     fn piece(&mut self, close: &[u8], content: &mut Vec<u8>) -> Result<bool, Stop>
         ensures { ReadsTokens

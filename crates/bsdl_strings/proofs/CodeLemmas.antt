@@ -1,5 +1,5 @@
--- If a text of fewer than 2^32 bytes is not a code, fewer than 2^32 - 1 symbols are at its front.
--- The text is then empty, or one of its bytes is not a symbol.
+-- A code consists of one or more symbols (0, 1 and X). A text that is not a code is empty or has a byte that is not a
+-- symbol. So if the text has fewer than 2^32 bytes, fewer than 2^32 - 1 symbols are at its front.
 use Rattle.std.proofs.Common.{◌≡◌, ℕ, ◌<◌, ◌^◌, Bool, true, false, ◌&&◌, cond, List, [], ◌∷◌, length, nat_lt, refl, ap, ◌∙◌, sym, arith}
 use Rattle.std.specs.List.{take_while, list_all}
 use Rattle.std.proofs.lemmas.List.Sums.{take_while-cons}

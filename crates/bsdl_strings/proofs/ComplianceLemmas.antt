@@ -1,4 +1,4 @@
--- Lemmas about the two parentheses of a compliance string.
+-- Lemmas about the two lists in parentheses of a compliance string: the port bits and the patterns.
 use Rattle.std.proofs.Common.{◌≡◌, ℕ, ◌<◌, Bool, true, false, List, [], ◌∷◌, ◌++◌, length, Option, Some, None, inl, inr, refl, sym, ◌∙◌, ap}
 use Rattle.board_defs.specs.declared.device.Symbol.{Symbol}
 use Rattle.grammars.specs.Turn.{turn_of}

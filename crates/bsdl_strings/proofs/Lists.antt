@@ -1,5 +1,5 @@
--- Lemmas about lists in a string. A reader can read their entries and marks, and an entry in which
--- it stops is the first wrong entry.
+-- Lemmas about the lists in a string. A list is read entry by entry, with the mark after each entry. The entry in which
+-- reading stops is the first wrong entry.
 use Rattle.std.proofs.Common.{◌≡◌, ℕ, ◌<◌, ◌^◌, length, arith, subst, sym, ◌∙◌, ap, Bool, true, List, [], ◌∷◌, ◌++◌, Option, Some, None}
 use Rattle.std.specs.Borrow.{Bor}
 use Rattle.grammars.specs.inner.Reader.{found}

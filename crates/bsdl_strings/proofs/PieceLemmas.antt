@@ -1,4 +1,4 @@
--- Lemmas about the pieces at the front of a text, and about the number of pieces.
+-- Lemmas about the pieces (tokens) at the front of a text, and about the number of pieces.
 use Rattle.std.specs.Bool.{if◌then◌else◌}
 use Rattle.std.proofs.Common.{suc, ◌≡◌, ℕ, ◌+◌, ◌≤◌, Bool, true, false, ◌&&◌, cond, List, [], ◌∷◌, length, take, drop, refl, sym, ◌∙◌, ap, arith}
 use Rattle.std.specs.List.{take_while}

@@ -31,7 +31,7 @@ abbrev pub is_end : List ℕ → Bool
 is_end [] = true
 is_end (byte ∷ bytes) = false
 
--- The pieces of a text, of which the last is the end of the text. Blanks separate pieces and belong
+-- The pieces of a text. The last piece is empty and stands for the end of the text. Blanks separate pieces and belong
 -- to none.
 unfoldable pub pieces : List ℕ → List (List ℕ)
 pieces [] = [] ∷ []

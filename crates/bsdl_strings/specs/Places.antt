@@ -1,5 +1,6 @@
--- Grammars of one piece each. A grammar says which pieces it accepts, and what value an accepted
--- piece has. The case of letters does not matter, and names are in upper case.
+-- Grammars of one piece each. The pieces of a string are its tokens. A mark is a piece of one byte. A grammar says
+-- which pieces it accepts, and what value an accepted piece has. The case of letters does not matter, and names are in
+-- upper case.
 use Rattle.std.specs.Prelude.{ℕ, ◌==◌, List, [], ◌∷◌, length, map, reverse, Bool, true, false, ◌&&◌, ◌||◌, if◌then◌else◌, Option, Some, None, nat_lt, codes}
 use Rattle.std.specs.List.{list_all}
 use Rattle.std.specs.Str.{bytes_eq}
@@ -50,7 +51,7 @@ is_pin piece = nat_lt 0 (length piece) && list_all is_word_byte piece
 abbrev pub is_word_piece : List ℕ → Bool
 is_word_piece piece = starts_with_letter piece && list_all is_word_byte piece
 
--- the byte is the character 0, 1 or X
+-- the byte is the character 0, 1, X or x
 abbrev pub is_symbol : ℕ → Bool
 is_symbol byte = (byte == 48) || ((byte == 49) || (to_ascii_uppercase byte == 88))
 
@@ -110,11 +111,11 @@ word = place (λ piece. some_if (is_word_piece piece) (upper piece))
 abbrev pub pin : Part (List ℕ)
 pin = place (λ piece. some_if (is_pin piece) (upper piece))
 
--- a pin, or an opening parenthesis, whose value is None
+-- a pin or an opening parenthesis; the value is None for the parenthesis
 abbrev pub pin_or_open : Part (Option (List ℕ))
 pin_or_open = place (λ piece. if is_mark_piece open_mark piece then Some None else some_if (is_pin piece) (Some (upper piece)))
 
--- a word, or `*`, whose value is None
+-- a word or `*`; the value is None for `*`
 abbrev pub word_or_star : Part (Option (List ℕ))
 word_or_star = place (λ piece. if is_mark_piece star piece then Some None else some_if (is_word_piece piece) (Some (upper piece)))
 

@@ -1,6 +1,6 @@
--- The grammars of the strings inside a BSDL text, as far as an interconnect test needs them (IEEE
--- 1149.1b-1994 and IEEE 1149.1-2001, Annex B), and the values of the strings. The comment above a
--- production is its EBNF rule.
+-- The grammars of the strings inside a BSDL text, as far as an interconnect test needs them (IEEE 1149.1b-1994 and IEEE
+-- 1149.1-2001, Annex B), and the values of the strings. The comment above a production is its EBNF rule. The pieces of
+-- a string are its tokens. A mark is a piece of one byte, such as a comma.
 use Rattle.std.specs.Prelude.{◌≡◌, ℕ, ◌+◌, List, [], ◌∷◌, ◌++◌, length, Bool, true, false, Option, Some, None, IsTrue, ◌⊎◌}
 use Rattle.std.specs.List.{take_while}
 use Rattle.board_defs.specs.declared.device.Symbol.{Symbol}
@@ -18,7 +18,7 @@ use Rattle.bsdl_strings.specs.declared.values.Compliance.{Compliance}
 use Rattle.bsdl_strings.specs.Pieces.{pieces}
 use Rattle.bsdl_strings.specs.Places.{Part, mark, either_mark, comma_or_end, word, pin, pin_or_open, word_or_star, after_bit, the_end, index, code, safe_symbol, bit_mark, role, result_word, open_mark, close_mark, comma, colon, is_symbol, is_code_piece, code_of}
 
--- a comma or a closing parenthesis
+-- a comma or a closing parenthesis; the value is true for the comma
 abbrev pub comma_or_close : Part Bool
 comma_or_close = either_mark comma close_mark
 
@@ -45,8 +45,8 @@ opcode = do
   codes ← list_of code comma_or_close
   done (record { name = name; codes = codes })
 
--- The rest of a place after its port name and the next mark. After "(" the rest is index ")" ",".
--- After "," nothing more is read.
+-- A place is the port of an entry, or `*` if the entry has none. The rest of a place after its port name and the next
+-- mark. After "(" the rest is index ")" ",". After "," nothing more is read.
 abbrev pub indexed : List ℕ → Bool → Part PortWord
 indexed name false = done (Plain name)
 indexed name true = do
@@ -70,8 +70,9 @@ port_place = do
   first ← word_or_star
   rest_of_place first
 
--- The rest of a control after its first mark. After "," the rest is index "," value "," result ")".
--- After ")" nothing more is read.
+-- A control is the last part of an entry: a control cell, a disable value and a disable result, if the entry has them.
+-- The rest of a control after its first mark. After "," the rest is index "," value "," result ")". After ")" nothing
+-- more is read.
 abbrev pub control_of : Bool → Part (Option Control)
 control_of false = done None
 control_of true = do
@@ -89,7 +90,7 @@ control = do
   more ← comma_or_close
   control_of more
 
--- index "(" word ",", in which the word is the name of the cell's kind; this name is not used
+-- index "(" word ",", in which the word is the cell name, such as BC_1; this name is not used
 unfoldable pub cell : Part ℕ
 cell = do
   num ← index
@@ -206,11 +207,12 @@ pub record IsNoPattern (text : List ℕ) (number : ℕ) : Type 0 where
 abbrev pub IsCompliance : List ℕ → Compliance → Type 0
 IsCompliance text value = (production_of compliance).Whole (pieces text) value
 
--- the string begins with a whole first parenthesis
+-- the string begins with a whole list of port bits in parentheses
 abbrev pub HasFirstParenthesis : List ℕ → Type 0
 HasFirstParenthesis text = Follows (production_of first_parenthesis) (λ ports rest. Unit {0}) (pieces text)
 
--- The string is not a compliance string. `number` is 2 if the string begins with a whole first parenthesis, and otherwise 1.
+-- The string is not a compliance string. `number` is 2 if the string begins with a whole list of port bits in
+-- parentheses, and otherwise 1.
 pub record IsNoCompliance (text : List ℕ) (number : ℕ) : Type 0 where
   pub no_value : (value : Compliance) → IsCompliance text value → ⊥
   pub place : ((number ≡ 1) × ¬ HasFirstParenthesis text) ⊎ ((number ≡ 2) × HasFirstParenthesis text)

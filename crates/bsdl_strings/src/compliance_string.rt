@@ -1,4 +1,4 @@
-//! Reads compliance strings, which have port bits in one parenthesis and patterns in another.
+//! Reads compliance strings. A compliance string has two lists in parentheses: first port bits, then patterns.
 ghost use Rattle.std.specs.Prelude.{◌<◌, [], IfOk, IfErr};
 ghost use Rattle.grammars.specs.inner.Reader.{found};
 ghost use Rattle.grammars.specs.Grammar.{reader_of_grammar};
@@ -34,8 +34,8 @@ fn bit_from(
     }
 }
 
-/// Reads a port bit and the mark after it. Returns the bit, whether another bit follows, and the
-/// text after the mark.
+/// Reads a port bit and the comma or closing parenthesis after it. Returns the bit, whether another bit follows, and
+/// the text after the comma or parenthesis.
 #[tactic(auto, unfolding(crate::specs::Strings::bit))]
 fn bit(alloc: Global, text: &[u8]) -> Result<((PortWord, bool), &[u8]), Stop<'_>>
     ensures { ReadsPieces (λ x. found x.0 (pieces x.1.now)) result
@@ -46,7 +46,7 @@ fn bit(alloc: Global, text: &[u8]) -> Result<((PortWord, bool), &[u8]), Stop<'_>
     bit_from(name, next, rest)
 }
 
-/// Reads bits up to and including the closing parenthesis.
+/// Reads port bits up to and including the closing parenthesis. Returns the bits and the text after the parenthesis.
 fn bits(alloc: Global, text: &[u8]) -> Result<(Items<PortWord>, &[u8]), Stop<'_>>
     ensures { ReadsPieces (λ x. found x.0 (pieces x.1.now)) result
         (reader_of_grammar any_bits (pieces text.now)) }
@@ -86,8 +86,8 @@ fn second_parenthesis(alloc: Global, text: &[u8]) -> Result<Items<Code>, Stop<'_
 /// Returns the value of a compliance string: the compliance bits, and the patterns that enable the
 /// test logic.
 ///
-/// Returns `StringFault::At` if the text is not a compliance string. The number in the fault is 2
-/// if the text begins with a whole parenthesis of bits, and otherwise 1.
+/// Returns `StringFault::At` if the text is not a compliance string. The number in the fault is 2 if the text begins
+/// with a whole list of bits in parentheses, and otherwise 1.
 pub fn compliance(alloc: Global, text: &[u8]) -> Result<Compliance, StringFault>
     ensures value { IfOk result (λ value. IsCompliance text.now value) }
     ensures fault { IfErr result (NamesEntry (IsNoCompliance text.now)) }

@@ -80,8 +80,8 @@ fn map_entry(alloc: Global, text: &[u8]) -> Result<(MapEntry, &[u8]), Stop<'_>>
     Ok((MapEntry { port, pins }, rest))
 }
 
-/// Returns `first` if it is a pin. If it is None, reads the pins of a group up to and including the
-/// closing parenthesis.
+/// Returns the pins of an entry and the text after them. If `first` is a pin, it is the only pin, and nothing more is
+/// read. If `first` is None, reads the pins up to and including the closing parenthesis.
 fn pins_from(
     alloc: Global,
     first: Option<Name>,
@@ -183,8 +183,8 @@ fn control(text: &[u8]) -> Result<(Option<Control>, &[u8]), Stop<'_>>
     control_from(comes, rest)
 }
 
-/// Reads a cell number and the name of the cell's kind, up to and including the comma after the name. Returns the
-/// number.
+/// Reads the number of a cell, an opening parenthesis, the cell name (such as BC_1) and the comma after it. Returns the
+/// number and the text after the comma.
 #[tactic(auto, unfolding(crate::specs::Strings::cell))]
 fn cell(text: &[u8]) -> Result<(u32, &[u8]), Stop<'_>>
     ensures { ReadsPieces (λ x. found x.0 (pieces x.1.now)) result

@@ -9,10 +9,9 @@ use thiserror::Error;
 /// memory.
 #[derive(Clone, Copy, Debug, PartialEq, Eq, Error)]
 pub enum StringFault {
-    /// The number of the first wrong entry, counted from 1. Each entry before it is whole and
-    /// followed by a comma. For a pattern, the number is the place of the first character that is
-    /// not 0, 1 or X, counted from 1, or 1 if the pattern is empty. For a compliance string, it is
-    /// 1 for the first parenthesis and 2 for the rest.
+    /// The number of the first wrong entry, counted from 1. Each entry before it is whole and followed by a comma. For
+    /// a pattern, the number is the place of the first character that is not 0, 1 or X, counted from 1, or 1 if the
+    /// pattern is empty. For a compliance string, it is 1 for the list of port bits and 2 for the rest.
     #[error("entry {0}")]
     At(u32),
     #[error("out of memory")]

@@ -1,4 +1,4 @@
-//! Reads lists of entries: a list that is a whole string, and a list in parentheses.
+//! Reads lists of entries. A list is either a whole string or in parentheses.
 ghost use Rattle.std.specs.Prelude.{◌≡◌, ◌<◌, ◌^◌, length, IfOk, IfErr};
 ghost use Rattle.grammars.specs.inner.Reader.{found};
 ghost use Rattle.grammars.specs.Grammar.{reader_of_grammar};
@@ -16,11 +16,12 @@ use crate::stop::Stop;
 use board_defs::Items;
 use std::alloc::Global;
 
-/// An entry of a list.
+/// A type whose values are the entries of a list. `grammar` is the grammar of an entry. `takes` is a proof that an
+/// entry, and each turn of each repetition in an entry, takes at least one piece (token) of the text.
 pub(crate) trait Listed: Drop {
     ghost grammar: { Part Self };
 
-    /// Reads an entry. Returns it with the text after it.
+    /// Reads an entry. Returns the entry and the text after it.
     fn read(alloc: Global, text: &[u8]) -> Result<(Self, &[u8]), Stop<'_>>
         ensures { ReadsPieces (λ x. found x.0 (pieces x.1.now)) result
             (reader_of_grammar grammar (pieces text.now)) };
@@ -28,7 +29,7 @@ pub(crate) trait Listed: Drop {
     ghost takes: { Takes grammar };
 }
 
-/// Returns the fault of a list if reading stopped after `entries` whole entries.
+/// Returns the fault of a list if reading stopped after `entries` whole entries. `entries` must be below 2^31.
 pub(crate) fn fault(stop: Stop<'_>, entries: usize) -> StringFault
     requires { entries < 2 ^ 31 }
     ensures { result ≡ stop_fault stop.entry entries }
@@ -39,7 +40,9 @@ pub(crate) fn fault(stop: Stop<'_>, entries: usize) -> StringFault
     }
 }
 
-/// Returns the entries of a string in which commas separate the entries.
+/// Returns the entries of a string in which commas separate the entries. If the string is not such a list, returns
+/// `StringFault::At` with the number of the first wrong entry, counted from 1. The text must be shorter than 2^32
+/// bytes.
 pub(crate) fn all_entries<T: Listed>(alloc: Global, text: &[u8]) -> Result<Vec<T>, StringFault>
     requires { length text.now < 2 ^ 32 }
     ensures value { IfOk result (λ entries. IsListOf T.grammar text.now entries.items) }
@@ -65,7 +68,8 @@ pub(crate) fn all_entries<T: Listed>(alloc: Global, text: &[u8]) -> Result<Vec<T
     }
 }
 
-/// Reads entries up to and including the closing parenthesis. Commas separate the entries.
+/// Reads entries, separated by commas, up to and including the closing parenthesis. Returns the entries and the text
+/// after the parenthesis.
 pub(crate) fn group<T: Listed>(alloc: Global, text: &[u8]) -> Result<(Items<T>, &[u8]), Stop<'_>>
     ensures { ReadsPieces (λ x. found x.0 (pieces x.1.now)) result
         (reader_of_grammar (list_of T.grammar comma_or_close) (pieces text.now)) }

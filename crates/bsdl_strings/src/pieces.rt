@@ -48,8 +48,7 @@ fn word_piece(text: &[u8]) -> (&[u8], &[u8])
     text.split_at(word_bytes(text))
 }
 
-/// Returns the piece at the front and the text after it. Returns None if only the end of the text
-/// is left.
+/// Returns the piece at the front and the text after it. Returns None if the text has only blanks or is empty.
 #[tactic(auto, unfolding(crate::specs::Pieces::pieces))]
 pub(crate) fn next_piece(text: &[u8]) -> Option<(&[u8], &[u8])>
     ensures pieces { MatchOption result (pieces text.now ≡ [] ∷ [])

@@ -1,5 +1,6 @@
-//! Functions that read one piece of a text. Each returns the value of the piece and the text after
-//! it, or `Stop::At` if the piece does not fit.
+//! Functions that read one piece of a text. A piece is a group of letters, digits and `_`, or a single other byte. Each
+//! function returns the value of the piece and the text after it, or `Stop::At` if the piece does not fit. A mark is a
+//! piece of one byte.
 ghost use Rattle.std.specs.Prelude.{◌≡◌, ◌-◌, ◌*◌, ◌<◌, ◌≤◌, ◌^◌, [], length, IfOk};
 ghost use Rattle.std.specs.List.{list_all, take_while};
 ghost use Rattle.grammars.specs.inner.Reader.{found};

@@ -4,8 +4,8 @@ ghost use Rattle.bsdl_strings.specs.declared.stop.Stop.TheVariants.{Memory};
 
 use std::alloc::{AllocError, AllocFailed};
 
-/// The reason why reading stops: memory ran out, or a piece does not fit the grammar. `At` contains
-/// the text from that piece to the end.
+/// The reason why reading stops: memory ran out, or a piece (a token of the string) does not fit the grammar. `At`
+/// contains the text from that piece to the end.
 #[derive(Drop)]
 pub(crate) enum Stop<'a> {
     Memory(AllocError),

@@ -1,5 +1,5 @@
--- If V1 holds, the values that it returns are the values of the entity's attributes and of the
--- package.
+-- Rule V1 is about the attributes and the pin map that an entity must have. If V1 holds, the values that it returns are
+-- the values of the entity's attributes and of the package.
 use Rattle.std.proofs.Common.{◌≡◌, ℕ, ◌≤◌, ◌&&◌, nat_le, if◌then◌else◌, Bool, true, false, List, Option, Some, None, Result, Ok, Err, refl, subst}
 use Rattle.std.proofs.lemmas.Bool.{and_parts, leb-true}
 use Rattle.board_defs.specs.Limits.{most_bits, most_instruction_bits}

@@ -1,4 +1,4 @@
--- Lemmas about the listing of a device.
+-- Lemmas about the listing of a device: its lines, and the order of its ports and of its entries.
 use Rattle.std.proofs.Common.{◌≡◌, ℕ, ◌+◌, ◌-◌, ◌<◌, ◌≤◌, zero, suc, Bool, true, false, cond, List, [], ◌∷◌, ◌++◌, length, take, drop, map, filter, get_or, Some, refl, sym, ap, subst, ◌∙◌, append_assoc, append-nil, length-append, inl, inr, arith}
 use Rattle.std.specs.Prelude.{◌==◌, ◌||◌, ◌&&◌, slice_get}
 use Rattle.std.specs.List.{flat_map, prefix_len, range_with_len}
@@ -372,8 +372,8 @@ one_of roles device num one =
     let second = and_parts (d.num == num) (roles d.role) pass_d in
     one i j e d is_e is_d first.1 second.1 (eqb-true e.num num first.0 ∙ sym (eqb-true d.num num second.0)))
 
--- each entry defines what its cell captures or is for the cell's update latch, and a cell has at
--- most one entry of either kind
+-- Each entry defines what its cell captures, or takes its value from the cell's update latch, or both. A cell has at
+-- most one entry of the first kind and at most one of the second, so it has at most two entries.
 pub few_entries : (device : RawDevice) → OneOf is_loading device → OneOf is_writing device
     → (num : ℕ) → length (entries_of_cell num device.cells) ≤ 2
 few_entries device loading writing num =

@@ -1,4 +1,5 @@
--- Samples of the sources that break V1, worked out by hand from the table of the attributes.
+-- Samples of the sources that break rule V1, worked out by hand from the table of the attributes. A source is an
+-- attribute or the pin map of the package.
 use Rattle.std.proofs.Common.{◌≡◌, ℕ, List, [], ◌∷◌, ◌++◌, map, filter, Option, Some, None, codes, refl}
 use Rattle.std.specs.List.{range_with_len}
 use Rattle.bsdl_parser.specs.declared.entity.Attr.{Attr}
@@ -20,7 +21,7 @@ needed instruction boundary =
     ∷ attribute 8 (Text (codes "01")) ∷ attribute 9 (Number boundary)
     ∷ attribute 10 (Text (codes "0 (BC_1, Q, OUTPUT2, X)")) ∷ []
 
--- the four attributes that an entity may have, of which the last names this edition
+-- the four optional attributes; the last one names this edition
 abbrev optional : List ℕ → List Attr
 optional edition =
     attribute 11 (Port (codes "TRST")) ∷ attribute 12 (Text (codes "X"))
@@ -47,7 +48,7 @@ broken e given = filter (breaks_source e given) (range_with_len 0 20)
 abbrev broken_with : List Attr → List ℕ
 broken_with attributes = broken (entity attributes) None
 
--- an entity without attributes lacks those that it must have, and only those
+-- an entity without attributes breaks V1 only at the ten mandatory attributes
 none_given : broken_with [] ≡ 1 ∷ 2 ∷ 3 ∷ 4 ∷ 5 ∷ 6 ∷ 7 ∷ 8 ∷ 9 ∷ 10 ∷ []
 none_given = refl
 
@@ -65,14 +66,14 @@ lengths : broken_with (needed 1 0) ∷ broken_with (needed 255 65535) ∷ broken
     ≡ (6 ∷ 9 ∷ []) ∷ [] ∷ (6 ∷ 9 ∷ []) ∷ []
 lengths = refl
 
--- an entity may name one of three editions, and the whole name counts
+-- an entity may name one of three editions, and the name must match exactly
 editions : map (λ name. broken_with (needed 2 1 ++ optional name))
     (codes "STD_1149_1_1990" ∷ codes "STD_1149_1_1993" ∷ codes "STD_1149_1_2001"
     ∷ codes "STD_1149_1_1994" ∷ codes "STD_1149_1_199" ∷ codes "STD_1149_1_2001 " ∷ [])
     ≡ [] ∷ [] ∷ [] ∷ (14 ∷ []) ∷ (14 ∷ []) ∷ (14 ∷ []) ∷ []
 editions = refl
 
--- a package that the caller gives counts instead of the default, whether or not it has a pin map
+-- a package that the caller gives is used instead of the default, even if it has no pin map
 given_package : map (λ name. broken (entity (needed 2 1)) (Some name)) (codes "P" ∷ codes "R" ∷ codes "S" ∷ []) ≡ [] ∷ [] ∷ (15 ∷ []) ∷ []
 given_package = refl
 

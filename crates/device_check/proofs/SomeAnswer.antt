@@ -46,8 +46,8 @@ first_takes : EachTurnTakes first_parenthesis
 unfolding grammar.compliance
 first_takes = compliance_takes.0
 
--- the number in the fault of COMPLIANCE_PATTERNS is 2 if the string begins with a whole first
--- parenthesis, and otherwise 1
+-- the number in the fault of COMPLIANCE_PATTERNS is 2 if the string begins with a whole list of port bits in
+-- parentheses, and otherwise 1
 which_parenthesis : (text : List ℕ) → (n : ℕ) × (((n ≡ 1) × ¬ HasFirstParenthesis text) ⊎ ((n ≡ 2) × HasFirstParenthesis text))
 which_parenthesis text = by_reader (reader_of_grammar first_parenthesis (pieces text)) refl
   where
@@ -110,7 +110,7 @@ read_or_left entity needs compliance =
     (text_of_attribute entity CompliancePatterns)
 read_or_left entity needs boundary = list_answered can_entries needs.registers.boundary
 
--- either all strings have values, or some string is the first that leaves its grammar
+-- either all strings have values, or some string is the first that does not fit its grammar
 pub data Gathered (entity : Entity) (needs : FoundValues) : Type 0 where
   values : (strings : Strings) → AreStrings entity needs strings → Gathered entity needs
   leaves : (attribute entry : ℕ) → LeavesFirst entity needs strings_in_order attribute entry → Gathered entity needs

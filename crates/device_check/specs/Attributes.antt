@@ -66,8 +66,8 @@ only_number entity attribute = option_and_then number_of_value (only_value entit
 abbrev pub only_text : Entity → Attribute → Option (List ℕ)
 only_text entity attribute = option_and_then text_in (only_value entity attribute)
 
--- the package that the caller gives, or, if the caller gives none, the default of the entity's
--- generic
+-- the package that the caller gives; if the caller gives none, the default package of the entity's generic item, if
+-- there is one
 abbrev pub chosen_package : Entity → Option (List ℕ) → Option (List ℕ)
 chosen_package entity (Some name) = Some name
 chosen_package entity None = entity.fallback

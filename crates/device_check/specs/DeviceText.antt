@@ -86,7 +86,7 @@ abbrev pub port_lines : List (List ℕ) → List PortBit → List ℕ
 port_lines ports bits =
     flat_map (λ port. port_line (name_of_port ports port) (filter (λ bit. bit.port == port) bits)) (range_with_len 0 (length ports))
 
--- the index of a vector's bit in parentheses, or no text for the bit of a plain port
+-- the index of a vector's bit in parentheses, or no text if the bit's port is not a vector
 abbrev pub index_text : Option ℕ → List ℕ
 index_text None = []
 index_text (Some index) = whole (codes "(" ∷ decimal index ∷ codes ")" ∷ [])

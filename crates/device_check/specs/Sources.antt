@@ -1,4 +1,5 @@
--- The places in an entity that a fault may name: their numbers, and the names of their strings.
+-- A source is an attribute, or the constant that is the pin map of the package. These are the numbers of the sources in
+-- faults, and the names of the sources' strings.
 use Rattle.std.specs.Prelude.{ℕ, ◌==◌, List, codes, if◌then◌else◌}
 use Rattle.bsdl_parser.specs.declared.entity.Attribute.TheVariants.{InstructionOpcode, InstructionCapture, BoundaryRegister, IdcodeRegister, CompliancePatterns}
 use Rattle.bsdl_parser.specs.AttributeNumbers.{attribute_number}

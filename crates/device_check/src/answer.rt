@@ -62,9 +62,8 @@ fn answer(alloc: Global, entity: &Entity, package: Option<&[u8]>) -> Result<Devi
     judge(alloc, draft)
 }
 
-/// Returns the device that the entity describes in this package. If `package` is None, takes the
-/// default package of the entity's generic. All names, texts and lists of the entity must be
-/// shorter than 2^32.
+/// Returns the device that the entity describes in this package. If `package` is None, uses the default package of the
+/// entity's generic item. All names, texts and lists of the entity must be shorter than 2^32.
 ///
 /// The rules are checked in this order: V1; the strings of the pin map and of INSTRUCTION_OPCODE,
 /// INSTRUCTION_CAPTURE, IDCODE_REGISTER, COMPLIANCE_PATTERNS and BOUNDARY_REGISTER; V2 to V14. The

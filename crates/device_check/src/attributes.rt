@@ -118,8 +118,8 @@ pub(crate) fn only_text(entity: &Entity, attribute: Attribute) -> Option<&[u8]>
     text_in(only_value(entity, attribute))
 }
 
-/// Returns the package that the caller gives. If the caller gives none, returns the default of the
-/// entity's generic, if there is one.
+/// Returns the package that the caller gives. If the caller gives none, returns the default package of the entity's
+/// generic item, if there is one.
 pub(crate) fn chosen<'a>(entity: &'a Entity, package: Option<&'a [u8]>) -> Option<&'a [u8]>
     ensures { option_copied result ≡ chosen_package entity.now (option_copied «package».entry) }
 {

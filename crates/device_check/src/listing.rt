@@ -286,7 +286,7 @@ fn put_ports<K: Sink>(
     Ok(())
 }
 
-/// Prints the index of a bit in parentheses, or nothing if the bit belongs to a plain port.
+/// Prints the index of a bit in parentheses, or nothing if the bit's port is not a vector.
 fn print_index<K: Sink>(index: Option<u32>, line: &mut Line, out: &mut K) -> Result<(), PutFault>
     ensures { Prints (K.shown out.old) (K.shown out.new) line.old line.new (index_text index)
         result }

@@ -1,4 +1,4 @@
-//! The table of the entries of a block of cells.
+//! A table of the entries of consecutive cells, with one place for each cell.
 ghost use Rattle.std.specs.Prelude.{◌≡◌, ◌==◌, ◌<◌, ◌≤◌, ◌+◌, ℕ, [], ◌∷◌, ◌++◌, length, map, slice_index_or, if◌then◌else◌};
 ghost use Rattle.std.specs.List.{range_with_len};
 ghost use Rattle.device_check.specs.DeviceText.{entries_of_cell};

@@ -163,9 +163,9 @@ fn wrong_option(entity: &Entity) -> Option<Attribute>
     }
 }
 
-/// Returns the name and the pin map of a package: the package that the caller gives, or otherwise
-/// the default of the entity's generic. Returns None if there is no package, or if no constant or
-/// more than one has the package's name.
+/// Returns the name and the pin map of a package. This is the package that the caller gives, or otherwise the default
+/// package of the entity's generic item. Returns None if there is no package, or if no constant or more than one has
+/// the package's name.
 fn needed_package<'a>(entity: &'a Entity, package: Option<&'a [u8]>) -> Option<NeededPackage<'a>>
     ensures { option_map package_view result
         ≡ found_package entity.now (chosen_package entity.now (option_copied «package».entry)) }

@@ -1,4 +1,4 @@
-//! The places in an entity that a fault may name, and the names of their strings.
+//! The places in an entity that a fault may name, which are called sources, and the names of their strings.
 ghost use Rattle.std.specs.Prelude.{◌≡◌};
 ghost use Rattle.device_check.specs.Sources.{source_number, string_name};
 

@@ -145,7 +145,7 @@ place_later : {A : Type 0} (p : A → Bool) (n : ℕ) (xs : List A)
 place_later p n [] = refl
 place_later p n (x ∷ xs) = place_later_by p n x xs (p x) (place_later p (n + 1) xs)
 
--- `b` is whether `port` has the name. If neither `port` nor one of `ports` has it, `located` finds no bit.
+-- `b` says whether `port` has the name. If neither `port` nor one of `ports` has the name, `located` finds no bit.
 nowhere_by : (name : List ℕ) (at : Option ℕ) (start : ℕ) (port : Port) (ports : List Port)
     (b : Bool)
     → (position_from (port_named name) 0 ports ≡ None
@@ -170,7 +170,7 @@ nowhere name at start (port ∷ ports) e =
     nowhere_by name at start port ports (bytes_eq port.name name)
     (λ none. nowhere name at (start + width port.range) ports none) e
 
--- `b` is whether `port` has the name, and port `n` of the list is the first that has it
+-- `b` says whether `port` has the name. Port `n` of the list `port ∷ ports` is the first port with the name.
 there_by : (name : List ℕ) (at : Option ℕ) (start n : ℕ) (d port : Port) (ports : List Port) (b : Bool)
     → ((m : ℕ) → position_from (port_named name) 0 ports ≡ Some m
     → located name at (start + width port.range) ports

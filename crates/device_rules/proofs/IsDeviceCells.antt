@@ -208,7 +208,8 @@ one_disable draft e8 e10 e11 i j e d a b at_i at_j is_a is_b same =
         (disables draft.entries x has_x a ctl_x a.cell refl false is_p))
         (two_values draft.boundary draft.entries e11 a.cell (control_below draft.boundary draft.entries e8 e10 x has_x a ctl_x)))
 
--- a cell has at most one entry that defines what it captures, and at most one for its update latch
+-- a cell has at most one entry that defines what the cell captures, and at most one that takes its value from the
+-- cell's update latch
 record IsSparse (entries : List Entry) (cell : ℕ) : Type 0 where
   loads : count_by (loads_cell cell) entries ≤ 1
   writes : count_by (writes_cell cell) entries ≤ 1

@@ -1,4 +1,5 @@
--- The instruction codes of the device.
+-- If a text keeps the rules V5, V6 and V7, the instruction codes and the IDCODE pattern of its device keep the rules of
+-- devices.
 use Rattle.std.proofs.Common.{◌≡◌, ◌≢◌, ℕ, zero, suc, ◌≤◌, ◌==◌, Bool, true, false, not, ◌&&◌, ◌||◌, List, [], ◌∷◌, map, length, replicate, Option, Some, None, refl, sym, ◌∙◌, ap, subst, arith, ◌⊎◌, inl, inr}
 use Rattle.std.specs.Prelude.{All, codes, IfSome, zip, option_and_then, if◌then◌else◌}
 use Rattle.std.specs.List.{list_any, list_all}

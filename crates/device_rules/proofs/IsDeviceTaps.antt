@@ -1,5 +1,5 @@
--- The TAP ports of a device are plain ports. One of them has mode out, and the other three or four
--- have mode in.
+-- The TAP ports of a device are plain ports, which are ports without a range. One of them has mode out, and the other
+-- three or four have mode in.
 use Rattle.std.proofs.Common.{◌≡◌, ◌≢◌, ℕ, zero, suc, ◌+◌, Bool, true, false, not, ◌&&◌, ◌||◌, cond, List, [], ◌∷◌, ◌++◌, map, Option, Some, None, refl, sym, ◌∙◌, ap, subst, arith, ◌⊎◌, inl, inr}
 use Rattle.std.specs.Prelude.{slice_get, count_by, is_none, IsTrue}
 use Rattle.std.specs.List.{list_all}
@@ -209,7 +209,8 @@ here_counted number port name mode named plain =
     ap (λ range. count_by (tapped_by name mode) (bits_along number port 0 (indexes range))) plain
     ∙ (one_counted (tapped_by name mode) (only_bit number port) ∙ ap (λ b. cond (b && mode port.mode) 1 0) (name_same port.name name named))
 
--- Exactly one bit has the name of a plain port. It is counted if the port's mode passes the test `mode`.
+-- Exactly one bit has the name of a plain port. So the count is 1 if the port's mode passes the test `mode`, and
+-- otherwise 0.
 name_counted : (first : ℕ) (ports : List Port) → Once (λ port. port.name) ports → (port : Port)
     → Has ports port → port.range ≡ None → (mode : Mode → Bool)
     → count_by (tapped_by port.name mode) (bits_from first ports) ≡ cond (mode port.mode) 1 0

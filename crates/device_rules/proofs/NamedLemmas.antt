@@ -15,8 +15,8 @@ use Rattle.device_rules.specs.Raw.{in_compliance}
 use Rattle.device_rules.proofs.NameLemmas.{bytes_turned}
 use Rattle.device_rules.proofs.PinLemmas.{one_more}
 
--- one step of a loop over the words: `old` is whether a word before word `i` names the bit, and
--- `new` is whether word `i` or one before it does
+-- One step of a loop over the words. `old` says whether a word before word `i` names the bit, and `new` says whether
+-- word `i` or one before it does.
 pub marked_more : (words : List PortWord) (i : ℕ) (word : PortWord) (key : List ℕ × Option ℕ)
     (name : List ℕ) (index : Option ℕ) (new old : Bool) → i < length words
     → get_or words i word ≡ word → key_of word ≡ Some key

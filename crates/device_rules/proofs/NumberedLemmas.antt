@@ -1,5 +1,5 @@
--- V3, V6 and V7 find the lowest number of an item that breaks the rule, and V8 finds the first
--- wrong cell.
+-- The rules V3 (on attributes), V6 (on instruction codes) and V7 (on patterns) find the lowest number of an item that
+-- breaks the rule. V8 finds the first entry outside the register, or otherwise the lowest cell number without an entry.
 use Rattle.std.proofs.Common.{◌≡◌, ℕ, List, [], ◌∷◌, ◌++◌, Bool, true, false, not, if◌then◌else◌, Option, Some, None, inl, inr, refl, ap, subst}
 use Rattle.std.specs.Prelude.{nat_le, find, option_map}
 use Rattle.board_defs.specs.declared.device.Symbol.{Symbol}

@@ -71,8 +71,8 @@ one_more true false = refl
 one_more false true = refl
 one_more false false = refl
 
--- one step of a loop over the entries: `old` is whether an entry before entry `i` names port `q`,
--- and `new` is whether entry `i` or one before it does
+-- One step of a loop over the entries. `old` says whether an entry before entry `i` names port `q`, and `new` says
+-- whether entry `i` or one before it does.
 pub known_more : (entries : List MapEntry) (i : ℕ) (entry : MapEntry) (name q : List ℕ)
     (new old : Bool) → i < length entries → get_or entries i entry ≡ entry → name ≡ entry.port
     → new ≡ cond (bytes_eq name q) true old
@@ -82,8 +82,8 @@ known_more entries i entry name q new old less is same e f =
     ∙ ap (λ n. list_any (maps_port q) (take i entries) || bytes_eq n q) same
     ∙ ap (λ x. list_any (maps_port q) (take i entries) || maps_port q x) (sym is) ∙ sym (list_any_more (maps_port q) entries i entry less)
 
--- `fresh` is the result of adding an item to a set, and `there` is whether the set had the item
--- before
+-- `fresh` is the result of adding an item to a set: it says whether the item is new. `there` says whether the set had
+-- the item before.
 pub was_there : (fresh there : Bool) → fresh ≡ not there → fresh ≡ false → there ≡ true
 was_there fresh true is old = refl
 was_there fresh false is old = let clash : true ≡ false = sym is ∙ old in absurd (cc clash)

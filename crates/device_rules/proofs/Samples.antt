@@ -55,8 +55,8 @@ no_ports = record {
     each zero within = refl
     each (suc n) within = absurd (omega (arith, within))
 
--- Places of indexes at both ends of a range and just outside it. A plain port has no bit with an
--- index, and a vector has no bit without one.
+-- Places of indexes at both ends of a range and just outside it. A port without a range has no bit with an index, and a
+-- vector has no bit without one.
 places : index_place falling (Some 7) ∷ index_place falling (Some 0) ∷ index_place falling (Some 8)
     ∷ index_place rising (Some 2) ∷ index_place rising (Some 4) ∷ index_place rising (Some 1)
     ∷ index_place rising (Some 5) ∷ []

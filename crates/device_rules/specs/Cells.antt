@@ -1,5 +1,5 @@
--- The rules on the cells of the boundary register. `v10` returns the number of the first entry that
--- breaks the rule, counted from 1. The other rules return a cell number.
+-- The rules on the cells of the boundary register. `v10` returns the number of the first entry that breaks the rule,
+-- counted from 1. The functions of the other rules return a cell number.
 use Rattle.std.specs.Prelude.{ℕ, ◌==◌, List, Bool, true, false, ◌&&◌, ◌||◌, not, if◌then◌else◌, Option, Some, None, nat_lt, nat_le, find, option_map, count_by}
 use Rattle.std.specs.List.{list_any}
 use Rattle.board_defs.specs.declared.device.Role.{Role}
@@ -43,8 +43,9 @@ is_entry_of_control cell entry = (entry.num == cell) && is_controlling entry.rol
 abbrev pub has_control_entry : List Entry → ℕ → Bool
 has_control_entry entries cell = list_any (is_entry_of_control cell) entries
 
--- An entry with this control breaks rule V10: it lacks a control that it needs, it has one although it does not drive, or its control is
--- neither its own cell nor a cell with a CONTROL or CONTROLR entry.
+-- The last argument is the control of the entry, or None if it has none. The entry breaks rule V10 if it lacks a
+-- control that it needs, it has one although it does not drive, or its control is neither its own cell nor a cell with
+-- a CONTROL or CONTROLR entry.
 abbrev pub breaks_control_of : List Entry → Entry → Option Control → Bool
 breaks_control_of entries entry None = needs_control entry.role
 breaks_control_of entries entry (Some control) =
@@ -74,17 +75,20 @@ has_two_values entries cell = list_any (controls_entry true cell) entries && lis
 unfoldable pub v11 : ℕ → List Entry → Option ℕ
 v11 boundary entries = least_below (has_two_values entries) boundary
 
--- the entry belongs to the cell and defines what it captures: INPUT, CLOCK, OBSERVE_ONLY, BIDIR or INTERNAL
+-- the entry belongs to the cell and defines what the cell captures: its function is INPUT, CLOCK, OBSERVE_ONLY, BIDIR
+-- or INTERNAL
 abbrev pub loads_cell : ℕ → Entry → Bool
 loads_cell cell entry = is_entry_of cell entry && is_loading entry.role
 
--- the entry belongs to the cell and is for its update latch: OUTPUT2, OUTPUT3, CONTROL, CONTROLR, BIDIR or INTERNAL
+-- the entry belongs to the cell and takes its value from the cell's update latch: its function is OUTPUT2, OUTPUT3,
+-- CONTROL, CONTROLR, BIDIR or INTERNAL
 abbrev pub writes_cell : ℕ → Entry → Bool
 writes_cell cell entry = is_entry_of cell entry && is_writing entry.role
 
 abbrev pub is_crowded : List Entry → ℕ → Bool
 is_crowded entries cell = nat_lt 1 (count_by (loads_cell cell) entries) || nat_lt 1 (count_by (writes_cell cell) entries)
 
--- V12: each cell below `boundary` has at most one entry that defines what it captures, and at most one for its update latch
+-- V12: each cell below `boundary` has at most one entry that defines what the cell captures, and at most one that takes
+-- its value from the cell's update latch
 unfoldable pub v12 : ℕ → List Entry → Option ℕ
 v12 boundary entries = least_below (is_crowded entries) boundary

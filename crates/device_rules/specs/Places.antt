@@ -1,5 +1,5 @@
--- The rules on the ports of boundary entries. Each rule returns the number of the first entry that
--- breaks it, counted from 1.
+-- The rules on the ports of boundary entries. The function of each rule returns the number of the first entry that
+-- breaks the rule, counted from 1.
 use Rattle.std.specs.Prelude.{ℕ, List, Bool, true, false, ◌&&◌, ◌||◌, not, if◌then◌else◌, Option, Some, None, is_none}
 use Rattle.std.specs.List.{list_any}
 use Rattle.board_defs.specs.declared.device.Role.{Role}
@@ -18,12 +18,13 @@ is_star Star = true
 is_star (Plain name) = false
 is_star (Index name index) = false
 
--- the entry is at a wrong place: a CONTROL, CONTROLR or INTERNAL entry must be at `*`, and any other entry on a port bit
+-- The entry breaks V9. A CONTROL, CONTROLR or INTERNAL entry must have `*` in place of a port, and any other entry must
+-- name a port bit.
 abbrev pub breaks_place : List Port → Entry → Bool
 breaks_place ports entry = if is_inner entry.role then not (is_star entry.port) else is_none (bit_number ports entry.port)
 
--- V9: each CONTROL, CONTROLR and INTERNAL entry is at `*`. Each other entry is on a port bit, which it names with an index if and
--- only if the port is a vector.
+-- V9: each CONTROL, CONTROLR and INTERNAL entry has `*` in place of a port. Each other entry names a port bit, with an
+-- index if and only if the port is a vector.
 unfoldable pub v9 : List Port → List Entry → Option ℕ
 v9 ports entries = first_break (λ before entry. breaks_place ports entry) entries
 

@@ -53,7 +53,8 @@ pub record Bit : Type 0 where
   pub place : ℕ
   pub mode : Mode
 
--- The indexes of a port's bits. A plain port has one bit, without an index. The bits of a vector are in order from left to right.
+-- The indexes of a port's bits. A plain port, which is a port without a range, has one bit, without an index. The bits
+-- of a vector are in order from left to right.
 abbrev pub indexes : Option Range → List (Option ℕ)
 indexes None = None ∷ []
 indexes (Some range) = map Some (range_indexes range.left range.right)

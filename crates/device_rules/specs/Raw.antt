@@ -49,8 +49,8 @@ cell_of ports entry = record {
   ctl = entry.ctl;
 }
 
--- the entries as cells, in the order of the text, each with the number of its port bit, if it has
--- one
+-- The `Cell` of each entry, in the order of the text. Each `Cell` has the number of the port bit that the entry names,
+-- if the entry names one.
 unfoldable pub raw_cells : List Port → List Entry → List Cell
 raw_cells ports entries = map (cell_of ports) entries
 

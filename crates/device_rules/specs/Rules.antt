@@ -14,8 +14,8 @@ use Rattle.instruction_rules.specs.Instructions.{v5, v6, v7}
 use Rattle.device_rules.specs.Cells.{v8, v10, v11, v12}
 use Rattle.device_rules.specs.Places.{v9, v13, v14}
 
--- the rule and the first item that breaks it, or `after`, the result for the later rules, if no
--- item breaks it
+-- If an item breaks the rule, the result is the rule and this item. Otherwise it is `after`, the result for the later
+-- rules.
 abbrev pub rule : Rule → Option ℕ → Option Broken → Option Broken
 rule which None after = after
 rule which (Some item) after = Some (broken_at which item)

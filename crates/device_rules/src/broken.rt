@@ -2,7 +2,8 @@
 ghost use Rattle.std.specs.Prelude.{◌≡◌};
 ghost use Rattle.device_rules.specs.RuleNumbers.{rule_number, broken_at};
 
-/// A rule of a device. A report names an item of the rule by a number. Ports, entries and opcodes are counted from 1.
+/// A rule that a device must keep. A report gives the number of the item that breaks the rule. Ports, entries and
+/// opcodes are counted from 1.
 #[derive(Clone, Copy)]
 pub enum Rule {
     /// V1, on the mandatory attributes and the package. `device_check` checks this rule and says what its items are.
@@ -39,7 +40,7 @@ pub enum Rule {
 }
 
 impl Rule {
-    /// Returns the rule's number, from 1 to 14, which a fault contains.
+    /// Returns the rule's number, from 1 to 14. Faults contain this number.
     pub fn number(self) -> u32
         ensures { result ≡ rule_number self }
     {

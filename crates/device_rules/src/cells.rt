@@ -130,16 +130,17 @@ pub(crate) fn two_valued_control(
     Ok(least_with_both(boundary, &on, &off))
 }
 
-/// The two stages of a boundary cell: the flip-flop that captures a value, and the update latch.
+/// The two stages of a boundary cell: the flip-flop that captures a value, and the update latch. An entry is for the
+/// capture stage if it defines what the cell captures. It is for the update latch if it takes its value from the latch.
 #[derive(Clone, Copy, Debug, PartialEq, Eq)]
 pub enum Stage {
     Capture,
     Update,
 }
 
-/// Returns whether an entry with this function describes the stage of its cell. For the capture
-/// stage the function must be INPUT, CLOCK, OBSERVE_ONLY, BIDIR or INTERNAL. For the update latch
-/// it must be OUTPUT2, OUTPUT3, BIDIR, CONTROL, CONTROLR or INTERNAL.
+/// Returns whether an entry with this function is for this stage of its cell. For the capture stage the function must
+/// be INPUT, CLOCK, OBSERVE_ONLY, BIDIR or INTERNAL. For the update latch it must be OUTPUT2, OUTPUT3, BIDIR, CONTROL,
+/// CONTROLR or INTERNAL.
 fn is_for(stage: Stage, role: Role) -> bool
     ensures { result ≡ is_for stage role }
 {
@@ -158,8 +159,8 @@ fn count_one(table: &mut Vec<u32>, cell: u32)
     table[cell as usize] += 1;
 }
 
-/// Returns, for each of the `boundary` cells, the number of its entries that describe the stage.
-/// There must be fewer than 2^32 entries.
+/// Returns, for each of the `boundary` cells, the number of its entries for this stage. There must be fewer than 2^32
+/// entries.
 fn counts_of(
     alloc: Global,
     stage: Stage,

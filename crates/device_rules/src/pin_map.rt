@@ -42,8 +42,8 @@ fn is_broken(known: bool, fits: bool, repeats: bool) -> bool
     known || !fits || repeats
 }
 
-/// Returns whether one of the pins is in `seen` or occurs twice in `pins`. If the result is false,
-/// all of the pins were added to `seen`.
+/// Returns whether one of the pins is in `seen` or occurs twice in `pins`. If the result is false, adds all pins to
+/// `seen`.
 fn some_repeats<'a>(seen: &mut HashSet<&'a [u8]>, pins: &'a [Name]) -> Result<bool, AllocError>
     ensures answer { IfOk result (λ repeats. (before : List (List ℕ))
         → HasNames seen.old before → repeats ≡ some_repeats before pins.now) }

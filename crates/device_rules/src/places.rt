@@ -19,8 +19,8 @@ fn is_star(word: &PortWord) -> bool
     matches!(word, PortWord::Star)
 }
 
-/// Returns whether the entry is at a wrong place. A CONTROL, CONTROLR or INTERNAL entry must be at `*`, and any other entry
-/// must be on a port bit.
+/// Returns whether the entry breaks rule V9. A CONTROL, CONTROLR or INTERNAL entry must have `*` in place of a port,
+/// and any other entry must name a port bit.
 fn breaks_place(ports: &PortIndex, near: &mut Near, entry: &Entry) -> bool
     ensures { result ≡ breaks_place ports.now entry.now }
 {
@@ -31,9 +31,9 @@ fn breaks_place(ports: &PortIndex, near: &mut Near, entry: &Entry) -> bool
     }
 }
 
-/// Checks rule V9. Returns the number of the first entry at a wrong place, counted from 1. A
-/// CONTROL, CONTROLR or INTERNAL entry must be at `*`, and any other entry must be on a port bit.
-/// There must be fewer than 2^32 entries.
+/// Checks rule V9. Returns the number of the first entry that breaks it, counted from 1. A CONTROL, CONTROLR or
+/// INTERNAL entry must have `*` in place of a port, and any other entry must name a port bit. There must be fewer than
+/// 2^32 entries.
 #[tactic(auto, unfolding(crate::specs::Places::v9))]
 pub(crate) fn wrong_place(ports: &PortIndex, entries: &[Entry]) -> Option<u32>
     requires { length entries.now < 2 ^ 32 }

@@ -132,8 +132,8 @@ fn described_bits(alloc: Global, draft: &IndexedDraft) -> Result<Vec<PortBit>, A
     all_bits(alloc, draft.ports(), &pins, &text.taps, &named)
 }
 
-/// Returns the boundary entry as a cell, with the number of the port bit that the entry is on, if
-/// there is one.
+/// Returns the `Cell` that the record has for the entry. It has the number of the port bit that the entry names, if the
+/// entry names one.
 fn cell_of(ports: &PortIndex, near: &mut Near, entry: &Entry) -> Cell
     ensures { result ≡ cell_of ports.now entry.now }
 {
@@ -146,8 +146,8 @@ fn cell_of(ports: &PortIndex, near: &mut Near, entry: &Entry) -> Cell
     }
 }
 
-/// Returns the entries as cells, in the order of the text. Each cell has the number of the port bit
-/// that the entry is on, if there is one.
+/// Returns the `Cell` of each entry, in the order of the text. Each `Cell` has the number of the port bit that the
+/// entry names, if the entry names one.
 #[tactic(auto, unfolding(crate::specs::Raw::raw_cells))]
 fn all_cells(alloc: Global, ports: &PortIndex, entries: &[Entry]) -> Result<Vec<Cell>, AllocError>
     ensures { IfOk result (λ cells. cells.items ≡ raw_cells ports.now entries.now) }

@@ -1,5 +1,5 @@
--- The rules on instruction codes and patterns. The first symbol of a code is nearest TDO. If a rule
--- needs one exact code, X counts as 0.
+-- The rules V5 to V7 on instruction codes and patterns. The first symbol of a code is nearest TDO. If a rule needs one
+-- exact code, X counts as 0. The old edition of the standard is any edition before that of 2001.
 use Rattle.std.specs.Prelude.{ℕ, ◌==◌, zip, List, [], ◌∷◌, length, map, replicate, Bool, true, false, ◌&&◌, ◌||◌, not, if◌then◌else◌, Option, Some, None, codes, find, option_and_then}
 use Rattle.std.specs.List.{list_any, list_all}
 use Rattle.std.specs.Str.{bytes_eq}

@@ -1,4 +1,5 @@
-//! The rules on instruction codes and patterns.
+//! The rules V5 to V7 on instruction codes and patterns. The old edition of the standard is any edition before that of
+//! 2001.
 ghost use Rattle.std.specs.Prelude.{◌≡◌, ◌<◌, ◌^◌, length, zip, codes, map, replicate, IfOk};
 ghost use Rattle.std.specs.Option.{option_copied};
 ghost use Rattle.std.specs.List.{list_all, list_any};

@@ -1,4 +1,5 @@
--- The lengths of the longest token and of the longest gap at the front of a list of bytes.
+-- The lengths of the longest token and of the longest gap at the front of a list of bytes. A gap consists of blanks and
+-- comments.
 use Rattle.std.specs.Prelude.{ℕ, suc, ◌+◌, List, [], ◌∷◌, drop, Bool, true, false, ◌==◌, if◌then◌else◌, Option, Some, None, slice_get}
 use Rattle.std.specs.List.{prefix_len}
 use Rattle.std.specs.Char.{is_ascii_alphabetic, is_ascii_digit}
@@ -15,8 +16,8 @@ abbrev pub fraction_len : List ℕ → ℕ
 fraction_len [] = 0
 fraction_len (first ∷ others) = if first == point then with_digits 1 others else 0
 
--- the length of an exponent including its letter, which is the byte before these bytes; or 0 if
--- these bytes do not begin with an optional sign and digits
+-- The length of the exponent whose letter is the byte before these bytes. The length includes the letter. It is 0 if
+-- these bytes do not begin with an optional sign and digits.
 abbrev pub signed_len : List ℕ → ℕ
 signed_len [] = 0
 signed_len (first ∷ others) = if is_sign first then with_digits 2 others else with_digits 1 (first ∷ others)

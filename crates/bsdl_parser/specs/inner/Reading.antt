@@ -10,8 +10,8 @@ abbrev pub StopsBy : {T A : Type 0} → Outcome T A → List T → Stop → Type
 StopsBy outcome left (Memory error) = Unit {0}
 StopsBy outcome left Stray = outcome ≡ refused left
 
--- A function that reads the tokens `old` and leaves `new` returns what the reader `read` finds.
--- `view` maps the function's value to the grammar's value.
+-- A function reads tokens from the front of `old` and leaves the tokens `new`. It returns what the reader `read` finds
+-- in `old`. `view` maps the function's value to the grammar's value.
 abbrev pub ReadsTokens : {T X A : Type 0} → Reader T A → List T → List T → Result X Stop → (X → A) → Type 0
 ReadsTokens read old new (Ok x) view = read old ≡ found (view x) new
 ReadsTokens read old new (Err stop) view = StopsBy (read old) new stop

@@ -1,4 +1,5 @@
--- The contract of a reading function: it returns what the reader of the grammar finds.
+-- The contract of a reading function: it returns what the reader of the grammar finds in the pieces (tokens) of the
+-- text.
 use Rattle.std.specs.Prelude.{◌≡◌, ℕ, List, [], Bool, true, false, Option, Some, None, Result, Ok, Err}
 use Rattle.std.specs.Borrow.{Bor}
 use Rattle.grammars.specs.inner.Reader.{Outcome, found, refused}

@@ -1,4 +1,5 @@
--- Each entry of a list takes at least one piece, and so does each turn of a repetition in an entry. Lists of such entries can be read.
+-- Each entry of a list takes at least one piece (a token of the string), and so does each turn of each repetition in an
+-- entry. So lists of such entries can be read.
 use Rattle.std.specs.Prelude.{ℕ, List, Bool, true, false, Option, Some, None}
 use Rattle.std.proofs.Common.{inl}
 use Rattle.grammars.proofs.Grammars.{TakesToken, EachTurnTakes}

@@ -1,4 +1,4 @@
--- The order of bits and entries in the listing of a device, and the entries in a table's place.
+-- Port bits in the order of their ports, entries in the order of their cells, and the entries in a place of a table.
 use Rattle.std.specs.Prelude.{ℕ, ◌<◌, ◌≤◌, List, [], ◌∷◌}
 use Rattle.board_defs.specs.declared.device.Cell.{Cell}
 use Rattle.board_defs.specs.declared.device.PortBit.{PortBit}

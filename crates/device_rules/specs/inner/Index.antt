@@ -1,5 +1,5 @@
--- What the index of the ports, the index of the pin map and the set of compliance bits contain, and
--- what they find.
+-- The contents of the index of the ports, of the index of the pin map, and of the set of port bits that the compliance
+-- patterns name.
 use Rattle.std.specs.Prelude.{◌≡◌, ℕ, ◌+◌, ◌-◌, ◌≤◌, List, [], length, map, take, nat_eq, Bool, false, ◌&&◌, if◌then◌else◌, Option, Some, None, nat_le, slice_index}
 use Rattle.std.specs.Borrow.{Bor}
 use Rattle.std.specs.Str.{bytes_eq}
@@ -14,7 +14,7 @@ use Rattle.bsdl_strings.specs.declared.values.PortWord.{PortWord}
 use Rattle.bsdl_strings.specs.declared.values.PortWord.TheVariants.{Star, Plain, Index}
 use Rattle.device_rules.specs.Ports.{Bit, bit_total, v2}
 
--- `names` is the list of the borrowed names
+-- `lent` borrows the names in `names`, in the same order
 abbrev pub AreLent : List (Bor (List ℕ)) → List (List ℕ) → Type 0
 AreLent lent names = map (λ n. n.now) lent ≡ names
 
@@ -39,8 +39,8 @@ is_item_called name_in name = λ item. bytes_eq (name_in item) name
 abbrev pub place_called : {A : Type 0} → (A → List ℕ) → List A → List ℕ → Option ℕ
 place_called name_in items name = position_from (is_item_called name_in name) 0 items
 
--- The place of an index in a range, counted from 0 and from left to right, or None if the range does not contain the index. A plain
--- port has one bit, which has no index and place 0.
+-- The place of an index in a range, counted from 0 and from left to right, or None if the range does not contain the
+-- index. A port without a range has one bit, which has no index and place 0.
 abbrev pub index_place : Option Range → Option ℕ → Option ℕ
 index_place None None = Some 0
 index_place None (Some number) = None

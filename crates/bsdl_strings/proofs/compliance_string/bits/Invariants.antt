@@ -4,8 +4,8 @@ use Rattle.bsdl_strings.specs.Pieces.{pieces}
 use Rattle.bsdl_strings.specs.Strings.{bit_turn, bits}
 use Rattle.bsdl_strings.proofs.compliance_string.bits.Given as goal
 
--- reading the rest of the text, after the bits so far, gives the same result as reading the whole
--- text
+-- Reading the rest of the text, with the bits read so far as the start value, gives the same result as reading the
+-- whole text.
 abbrev pub invariant-bits : goal.invariant-bits
 invariant-bits l = reader_of_grammar (turns bit_turn l.bits.items) (pieces l.rest) ≡ reader_of_grammar bits (pieces l.text)
 

@@ -4,7 +4,7 @@ use Rattle.line_printer.specs.Prints.{Prints}
 use Rattle.device_check.specs.DeviceText.{code_text}
 use Rattle.device_check.proofs.listing.print_code.Given as goal
 
--- the symbols from place `at` on were printed, the last one first
+-- the symbols from place `at` to the end of the code were printed, the last symbol first
 abbrev pub invariant-loop-at : goal.invariant-loop-at
 invariant-loop-at g l = record {
   within : l.at ≤ length l.code;

@@ -4,7 +4,8 @@ use Rattle.line_printer.specs.Prints.{Prints}
 use Rattle.device_check.specs.DeviceText.{cell_lines}
 use Rattle.device_check.proofs.listing.put_blocks.Given as goal
 
--- the lines of the cells below `from` were written, `from` is at most the number of cells, and the table has 1,024 places
+-- The lines of the cells below `from` were written. `from` is at most the number of cells, and the table has 1,024
+-- places.
 abbrev pub invariant-loop-from : goal.invariant-loop-from
 invariant-loop-from g l = record {
   within : l.from ≤ l.device.boundary;

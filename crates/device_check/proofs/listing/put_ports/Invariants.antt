@@ -7,8 +7,8 @@ use Rattle.device_check.specs.DeviceText.{port_line, name_of_port}
 use Rattle.device_check.specs.inner.ListingForms.{Rises}
 use Rattle.device_check.proofs.listing.put_ports.Given as goal
 
--- the lines of ports `0..port` were written; the bits that are left include all bits of the other
--- ports, in the order of the ports, and no bit of a port below `port`
+-- The lines of ports `0..port` were written. The remaining bits are in the order of the ports. They include all bits of
+-- the remaining ports, and no bit of a port below `port`.
 abbrev pub invariant-loop-port : goal.invariant-loop-port
 invariant-loop-port g l = record {
   rises : Rises l.port l.rest;

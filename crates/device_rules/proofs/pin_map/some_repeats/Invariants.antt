@@ -3,8 +3,9 @@ use Rattle.device_rules.specs.PinMap.{some_repeats}
 use Rattle.device_rules.specs.inner.Seen.{HasNames}
 use Rattle.device_rules.proofs.pin_map.some_repeats.Given as goal
 
--- the set has the names that were in it at the start and the pins so far; the list has a repeated
--- pin if and only if the pins that are left have one
+-- The set has the names that were in it at the start and the pins visited so far. Some pin of the list is among the
+-- names at the start or occurs twice if and only if some remaining pin is in the set or occurs twice among the
+-- remaining pins.
 abbrev pub invariant-loop-pin : goal.invariant-loop-pin
 invariant-loop-pin l = record {
   seen : (before : List (List ℕ)) → HasNames l.fn.seen before → HasNames l.seen (before ++ take l.pin-index l.pins);

@@ -3,8 +3,8 @@ use Rattle.grammars.specs.Grammar.{turns, reader_of_grammar}
 use Rattle.bsdl_parser.specs.Bsdl.{port_group}
 use Rattle.bsdl_parser.proofs.cursor.Cursor.port_groups.Given as goal
 
--- reading the rest of the tokens, after the ports so far, gives the same result as reading all
--- tokens
+-- Reading the remaining tokens, with the ports read so far as the start value, gives the same result as reading all
+-- tokens.
 abbrev pub invariant-loop-ports : goal.invariant-loop-ports
 invariant-loop-ports l = reader_of_grammar (turns port_group l.ports.items) l.self ≡ reader_of_grammar (turns port_group []) l.fn.self
 

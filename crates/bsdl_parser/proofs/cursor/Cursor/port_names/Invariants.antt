@@ -3,8 +3,8 @@ use Rattle.grammars.specs.Grammar.{turns, reader_of_grammar}
 use Rattle.bsdl_parser.specs.Bsdl.{port_name}
 use Rattle.bsdl_parser.proofs.cursor.Cursor.port_names.Given as goal
 
--- reading the rest of the tokens, after the names so far, gives the same result as reading all
--- tokens
+-- Reading the remaining tokens, with the names read so far as the start value, gives the same result as reading all
+-- tokens.
 abbrev pub invariant-loop-names : goal.invariant-loop-names
 invariant-loop-names l = reader_of_grammar (turns port_name l.names.items) l.self ≡ reader_of_grammar (turns port_name []) l.fn.self
 

@@ -4,8 +4,8 @@ use Rattle.grammars.specs.Grammar.{turns, reader_of_grammar}
 use Rattle.bsdl_parser.specs.Bsdl.{string_piece, string}
 use Rattle.bsdl_parser.proofs.cursor.Cursor.string.Given as goal
 
--- reading the rest of the tokens, after the content so far, gives the same result as reading all
--- tokens
+-- Reading the remaining tokens, with the content read so far as the start value, gives the same result as reading all
+-- tokens.
 abbrev pub invariant-loop-content : goal.invariant-loop-content
 invariant-loop-content l =
     reader_of_grammar (turns (string_piece l.close) (map to_ascii_uppercase l.content.items)) l.self
