@@ -143,8 +143,8 @@ fn marked_twice(alloc: Global, words: &StandingWords<'_>) -> Result<Option<Board
     pin_twice(alloc, &pins)
 }
 
-/// Returns the first fault of the words' pins. The rules are checked in the order Limit 4, NoPin,
-/// PinTwice.
+/// Returns the first fault of the pins that the words name, or `None` if there is no fault. The rules
+/// are checked in the order Limit 4 (the number of pins), NoPin, PinTwice.
 #[tactic(auto, unfolding(crate::specs::inner::Marked::marked_pins))]
 fn pin_fault(alloc: Global, words: &StandingWords<'_>) -> Result<Option<BoardFault>, AllocError>
     ensures { IfOk result (λ fault. fault ≡ marked_pins words.now) }

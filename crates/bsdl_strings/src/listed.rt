@@ -21,7 +21,7 @@ use std::alloc::Global;
 pub(crate) trait Listed: Drop {
     ghost grammar: { Part Self };
 
-    /// Reads an entry. Returns the entry and the text after it.
+    /// Reads an entry. Returns the entry and the text after it, or the reason why reading stopped.
     fn read(alloc: Global, text: &[u8]) -> Result<(Self, &[u8]), Stop<'_>>
         ensures { ReadsPieces (λ x. found x.0 (pieces x.1.now)) result
             (reader_of_grammar grammar (pieces text.now)) };

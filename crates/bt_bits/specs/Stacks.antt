@@ -6,7 +6,8 @@ use Rattle.bt_bits.specs.Rows.{AreDigitsOf}
 use Rattle.bt_bits.specs.declared.stack.Column.{Column}
 
 -- The words of a stack, the number of bits of each row, and the number of bits for which each row
--- has room. A word has 64 bits: the digits of 16 rows at one place, with the digit of row 0 lowest.
+-- has room. A digit has four bits of a row. Word `i` has 64 bits: digit `i` of each of the 16 rows,
+-- with the digit of row 0 in the lowest four bits.
 pub record Stack : Type 0 where
   pub words : List ℕ
   pub len : ℕ

@@ -149,7 +149,7 @@ memory_run command held before now asked asked' out notes notes' asks noted = re
   memory_asks = λ e. asks;
 }
 
--- a run that asked for no text asked for the first 0 names of the command
+-- a run that asked for no text satisfies `AsksSome` with the count 0
 pub none_asked : (command : Command) (asked : List Text) → AsksSome command asked asked
 none_asked command asked = (zero, sym (append-nil asked))
 

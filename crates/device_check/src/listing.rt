@@ -145,7 +145,7 @@ fn put_instructions<K: Sink>(
     end_line(line, out)
 }
 
-/// Prints the pin of a port bit, if the port bit has a pin.
+/// Prints a space and the pin of a port bit. Prints nothing if the port bit has no pin.
 fn print_pin<K: Sink>(bit: &PortBit, line: &mut Line, out: &mut K) -> Result<(), PutFault>
     ensures { Prints (K.shown out.old) (K.shown out.new) line.old line.new (pin_text bit.now.pin)
         result }

@@ -34,8 +34,8 @@ pub enum Rule {
     Stages,
     /// V13, on the drivers of a port bit. The item is an entry of the boundary register.
     Drivers,
-    /// V14, on the modes of the ports that entries drive, and on TAP ports. The item is an entry of the boundary
-    /// register.
+    /// V14, on the ports of the entries: no entry drives a port of mode in or linkage, and no entry is on a TAP port.
+    /// The item is an entry of the boundary register.
     Modes,
 }
 

@@ -22,8 +22,9 @@ suspect_count lists (n ∷ []) = 2 + (2 * count_by (λ pin. pin.net == n) lists.
 suspect_count lists (m ∷ n ∷ []) = 4
 suspect_count lists (m ∷ n ∷ o ∷ nets) = 0
 
--- The suspects of a log: places in ascending order, all below the number of places. Each place whose single fault explains the log is among
--- them. Their number follows from the nets that differ in the log.
+-- The suspects of a log, in ascending order. They are places of the board, that is, places in the list of possible single faults
+-- (`places_of`). Each place whose single fault explains the log is a suspect. The number of suspects is `suspect_count` of the nets that
+-- differ in the log.
 pub record AreSuspects (board : RawBoard) (plan : PlanTables) (lists : FaultLists)
     (log : List (List Bool)) (suspects : List ℕ) : Type 0 where
   pub rising : AllPairs (λ i j. i < j) suspects

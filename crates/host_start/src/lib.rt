@@ -57,8 +57,8 @@ fn end_without<N: Sink>(error: &io::Error, notes: &mut N) -> u8
     Status::Usage.number()
 }
 
-// Runs the words from the system, and returns the exit status. If the system cannot give the words,
-// for example because they are not UTF-8, calls `end_without` instead.
+// Runs the command that the words from the system form, and returns the exit status. If the system
+// could not give the words, for example because they are not UTF-8, calls `end_without` instead.
 fn end_of<R: Threads + Sync, S: Store, K: Sink, N: Sink>(
     rt: &R,
     alloc: Global,

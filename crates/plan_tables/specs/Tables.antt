@@ -88,8 +88,9 @@ pass_cells_of board quiet table pass =
     let held : List HeldCell = map (held_cell board quiet) pass in
     record { held = held; drivers = cells_on table held }
 
--- `cells` has the cells of a pass, in any order. `held` has the cells of the controls. `drivers` and the steady cells together have the
--- cells of the drivers. No steady cell is the cell of a control.
+-- `cells` has the cells of a pass, in any order. `held` has the cells of the pass's controls. `steady` has the driver cells that all passes
+-- share. `steady` and `drivers` together have the cells of the drivers by which the pass observes nets. No steady cell is the cell of a
+-- control of the pass.
 pub record ArePassCells (board : RawBoard) (steady : List DriverCell) (pass : List Ctl) (cells : PassCells) : Type 0 where
   pub held : (h : HeldCell) → Contains cells.held h ↔ IsHeldCell board pass h
   pub drivers : (d : DriverCell) → Contains (steady ++ cells.drivers) d ↔ IsDriverCell board pass d

@@ -22,7 +22,7 @@ rows_after rows len log lines =
     first_or (counted rows (length log + length lines) (log ++ filter_map (bits_of_line len) lines))
     (offenses (rows - length log) len lines)
 
--- The remaining lines with words. The first remaining line has the number n.
+-- The lines with words in the remaining text `left`. The first line of `left` has the number `n`, whether it has words or not.
 abbrev pub lines_left : ℕ → Option (List ℕ) → List NumberedLine
 lines_left n left = filter has_words (numbered_lines n (lines_of left))
 

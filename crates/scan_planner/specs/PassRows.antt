@@ -42,8 +42,8 @@ steady_shifted plan j = assigned (λ d. d.position) (code_bit_of_driver plan.cod
 abbrev pub steady_compared : PlanTables → (DriverCell → Bool) → List Bool
 steady_compared plan bit = set_compared bit plan.nets.readers (replicate (length plan.quiet.bits) false) plan.steady
 
--- The rows are the rows that all passes of the plan share, stored side by side: the bits that are shifted in, the expected bits, and the
--- mask.
+-- `rows` has 16 rows, stored side by side, from which the rows of every pass of the plan are made. Each row has the bits that are shifted
+-- in and the expected bits, before the cells of a pass's own controls and drivers are set. All rows have the same mask.
 pub record AreCommonStacks (plan : PlanTables) (rows : StackedRows) : Type 0 where
   pub shifted : (j : ℕ) → j < 16 → stacked rows.shifted j ≡ steady_shifted plan j
   pub expected : (j : ℕ) → j < 16 → stacked rows.expected j ≡ steady_compared plan (code_bit_of_driver plan.codes j)

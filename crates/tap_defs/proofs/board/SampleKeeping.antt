@@ -44,7 +44,7 @@ keeper = device
     ∷ kept 6 Input (Some 6) One None ∷ kept 7 Output3 (Some 7) Any (by 8)
     ∷ kept 8 ControlRole None One None ∷ kept 9 Output2 (Some 8) One None ∷ kept 10 Output2 (Some 9) One None ∷ []) 11
 
--- Pins 1 and 2 are on unguarded nets, pin 4 is on a dark net, and pin 5 is on no net.
+-- Pin 1 is on one unguarded net, and pins 2 and 3 are on another. Pin 4 is on a net with a dark pin, and pin 5 is on no net.
 abbrev pub keeping : RawBoard
 keeping = board (Described keeper ∷ []) (net (pin 0 0 ∷ []) ∷ net (pin 0 1 ∷ pin 0 2 ∷ []) ∷ net (pin 0 4 ∷ foreign ∷ []) ∷ [])
 

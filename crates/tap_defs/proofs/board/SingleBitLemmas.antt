@@ -119,7 +119,7 @@ module _ (board : RawBoard) (row : TestRow) (part : ℕ) (device : RawDevice) (c
   pub reads_place : IsCompared board row part device cell place v → ReadsPlace board row part device cell place v
   reads_place c = by_entry (reading_entry device cell) refl c.expects c.reads
 
--- the nets of a short that has two nets
+-- Lemmas about a short of two nets, with the numbers `a` and `b`: which nets are in the short, and which bit the short has.
 module _ (a b : ℕ) (less : a < b) (kind : Kind) (one two : Net) where
   abbrev faults_of : FaultSet
   faults_of = set_of (Short a b kind)

@@ -44,6 +44,6 @@ abbrev pub driver_feeds : RawBoard → TestRow → Net → Option ℕ → Feedin
 driver_feeds board row net None = Undriven
 driver_feeds board row net (Some place) = pin_feeds board row place (slice_get net.pins place)
 
--- the driving of the net while the row is in the latches
+-- what drives the net while the row is in the latches: nothing, or the net's enabled driver, with its place and its bit
 abbrev pub row_feeding : RawBoard → TestRow → Net → Feeding
 row_feeding board row net = driver_feeds board row net (first_enabled board row.setting 0 net.pins)
