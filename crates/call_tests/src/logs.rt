@@ -94,12 +94,25 @@ fn log_answer(alloc: Global, text: &[u8], rows: u64, len: u32) -> Result<String,
     }
 }
 
+// Returns whether reading a log gives the answer `wanted`. Returns false if the text has 1,000 bytes or more.
+fn reads_as(
+    alloc: Global,
+    text: &[u8],
+    rows: u64,
+    len: u32,
+    wanted: &str,
+) -> Result<bool, AllocError> {
+    if text.len() >= 1000 {
+        return Ok(false);
+    }
+    Ok(log_answer(alloc, text, rows, len)?.as_str() == wanted)
+}
+
 #[test]
 fn logs(rt: HostRuntime) -> Result<(), Missed> {
     for (row, (text, rows, len, wanted)) in LOGS.iter().enumerate() {
-        expect(row, text.len() < 1000)?;
-        let answer = log_answer(rt.alloc(), text, *rows, *len)?;
-        expect(row, answer.as_str() == *wanted)?;
+        let holds = reads_as(rt.alloc(), text, *rows, *len, wanted)?;
+        expect(row, holds)?;
     }
     Ok(())
 }
