@@ -257,7 +257,7 @@ static ROWS: [Failing; 6] = [
         1,
         Status::Refused,
     ),
-    // The second command line has the other ending.
+    // Only the first command line has the expected result.
     (
         Table {
             name: "command lines",

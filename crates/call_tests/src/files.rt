@@ -41,13 +41,13 @@ static CHAIN_FILES: [Answer; 39] = [
     // UTF-16, with either order of bytes.
     (b"\xff\xfeI\0N\0E\0R\0T\0 \0R\0", "line 1: no statement"),
     (b"\xfe\xff\0I\0N\0E\0R\0T\0 \0R", "line 1: no statement"),
-    // Lengths at the limits, and the bytes beside the digits.
+    // Lengths at the limits and beyond them, and the bytes just below and above the digits in ASCII.
     (b"BYPASS U1 2\nBYPASS U2 255\nBYPASS U3 002", ""),
     (b"BYPASS U1 001", "line 1: number not allowed"),
     (b"BYPASS U1 256", "line 1: number not allowed"),
     (b"BYPASS U1 2/", "line 1: number not allowed"),
     (b"BYPASS U1 2:", "line 1: number not allowed"),
-    // The pins of a LINK line have letters, digits and `_`. The other rows have bytes beside these.
+    // The pins of a LINK line have letters, digits and `_`. The other rows have bytes just below or above these in ASCII.
     (b"LINK R1 AZaz_ 09", ""),
     (b"LINK R1 @ 1", "line 1: word not allowed"),
     (b"LINK R1 [ 1", "line 1: word not allowed"),

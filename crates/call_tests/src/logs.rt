@@ -56,7 +56,7 @@ static LOGS: [LogText; 32] = [
     (b"3FF\n#\n3FF\n3FF", 1, 10, "line 3: row too many"),
     (b"3FF\nzz zz", 1, 10, "line 2: row too many"),
     (b"3FF\n4FF\n3FF", 1, 10, "line 2: row too many"),
-    // All digits, in either case of letters, and the bytes beside them.
+    // All digits, in upper and lower case, and bytes just below and above the digits in ASCII.
     (
         b"0123456789abcdefABCDEF",
         1,
@@ -130,8 +130,8 @@ fn shown(alloc: Global, blocks: &[Block]) -> Result<String, AllocError> {
     Ok(text)
 }
 
-// Reads a batch in as many pieces as there are workers, or as a whole if there are none. Returns its blocks or its first fault as text.
-// Each log has `rows` rows of two bits. The text must be shorter than 2^32 bytes.
+// Reads a batch as a whole if `workers` is `None`, and in that many pieces otherwise. Returns its blocks or its first fault as text. Each
+// log has `rows` rows of two bits. The text must be shorter than 2^32 bytes.
 fn answer_in<R: Threads + Sync>(
     rt: &R,
     alloc: Global,

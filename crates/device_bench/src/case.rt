@@ -14,10 +14,10 @@ pub enum CaseFault {
         /// The result of the case.
         found: String,
     },
-    /// A text has 2^32 bytes or more, or one of its lists has 1,000 items or more.
+    /// A text has 2^32 bytes or more, or its contents have 1,000 or more ports, pin map entries, instructions or boundary register entries.
     #[error("too long")]
     TooLong,
-    /// A string that a case needs is not in its grammar.
+    /// A string that a case needs, such as a pin map, is not in its grammar.
     #[error("{0}")]
     String(StringFault),
     #[error("out of memory")]

@@ -1,4 +1,4 @@
-// Checks of the first rule that the contents of a BSDL text break, and of the device that contents without faults describe.
+// Checks of which rule the contents of a BSDL text break first, and of the device that they describe if they break no rule.
 ghost use Rattle.std.specs.Prelude.{◌≡◌, true, OnOk};
 ghost use Rattle.device_rules.specs.Rules.{HasShortLists};
 

@@ -1,4 +1,4 @@
-// The BSDL texts of cases.
+// The BSDL texts that the cases of the tests read. A `Source` says how such a text is made.
 ghost use Rattle.std.specs.Prelude.{◌<◌, ◌^◌, length, IfOk};
 
 use crate::case::CaseFault;
@@ -63,7 +63,7 @@ end buf2;
 /// The number of a line, counted from 1, and the text that replaces the line, including its line feed.
 pub type Line = (usize, &'static str);
 
-/// The text of a case.
+/// The BSDL text of a case.
 #[derive(Clone, Copy)]
 pub enum Source {
     /// These bytes.

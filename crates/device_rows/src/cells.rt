@@ -1,4 +1,4 @@
-// Rows for the command `device`: texts that break a rule on the entries of the boundary-scan register.
+// Table-driven tests of the command `device`. The texts break a rule on the entries of the boundary-scan register.
 use run_bench::{BI, Change, DRV, RCV, RCV1, RowFault, Rows, Table, tables_hold};
 
 // The part of `DRV` from the number of its cells to the beginning of the second entry.
@@ -35,7 +35,8 @@ const CONTROLS: [Change; 6] = [
     ),
 ];
 
-// Cell 0 has two entries that say what its update latch drives: an OUTPUT2 entry, and a CONTROL, CONTROLR or INTERNAL entry.
+// Cell 0 has two entries that take their value from its update latch. One is an OUTPUT2 entry. The other is a CONTROL, CONTROLR or INTERNAL
+// entry.
 const DRIVEN_TWICE: [Change; 3] = [
     (
         TWO_CELLS,
@@ -54,7 +55,7 @@ const DRIVEN_TWICE: [Change; 3] = [
     ),
 ];
 
-// A BIDIR entry says what its cell captures and what the cell's update latch drives. So the cell must have neither an INPUT nor a CONTROL
+// A BIDIR entry both reads its pin and takes its value from the cell's update latch. So the cell must have neither an INPUT nor a CONTROL
 // entry.
 const CELLS_OF_BOTH_WAYS: [Change; 2] = [
     (

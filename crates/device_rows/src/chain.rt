@@ -1,4 +1,5 @@
-// Rows for the command `chain`: chains, faulty chain files, command lines that are not valid, and failed reads and writes.
+// Table-driven tests of the command `chain`, with correct and faulty chain files, command lines that are not valid, and failed reads and
+// writes.
 use run_bench::Text::{Bytes, Edited, Numbered, Plain, Repeated};
 use run_bench::{
     DRV, Ending, Line, Named, Row, RowFault, Rows, Run, Table, Text, Trouble, tables_hold,
@@ -84,7 +85,7 @@ const FREE_NAMES: [Row; 4] = [
         line: "chain \u{e9}",
         ending: Ending::Scans(TWO_PARTS_SCANS),
     },
-    // Only the text of a DEVICE line must keep the rules of a device.
+    // btest applies the rules of a device to a BSDL text only if a DEVICE line names its entity.
     Row {
         texts: &[("c", Plain(TWO_PARTS)), ("bad", NO_CODES)],
         line: "chain c bad",
@@ -129,8 +130,8 @@ const DESCRIBED: [Line; 4] = [
     ),
 ];
 
-// Statements with too few or too many words, statements whose first word is not in upper case, and words that begin no statement of a chain
-// file.
+// Statements with too few or too many words, statements whose first word is not in upper case, and lines whose first word is not that of a
+// statement of a chain file.
 const NO_STATEMENTS: [Run; 17] = [
     (Plain("BYPASS U1"), NO_STATEMENT),
     (Plain("DEVICE U1 DRV - -"), NO_STATEMENT),

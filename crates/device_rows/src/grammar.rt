@@ -1,4 +1,4 @@
-// Rows for the command `device`: texts that are not in the grammar.
+// Table-driven tests of the command `device`. The texts are not in the grammar or have too many tokens.
 use run_bench::Text::{Front, Plain, Repeated};
 use run_bench::{Change, DRV, Ending, RowFault, Rows, Run, Table, tables_hold};
 
@@ -66,7 +66,7 @@ const HEADS: [Change; 15] = [
     ("string :=", "text :=", " line 2: not in the grammar"),
     (":= \"P\"", ":= P", " line 2: not in the grammar"),
     (":= \"P\"", "= \"P\"", " line 2: not in the grammar"),
-    // If `end` comes before the ports, the ports that follow don't help.
+    // The ports must come before `end`.
     (
         "port (TDI",
         "end;\nport (TDI",
@@ -92,7 +92,7 @@ const HEADS: [Change; 15] = [
     ),
     ("(1 to 2)", "(1 to N)", " line 3: not in the grammar"),
     ("(1 to 2)", "(2)", " line 3: not in the grammar"),
-    // The last group of ports has no semicolon.
+    // No semicolon may follow the last declaration in the list of ports.
     ("(1 to 2));", "(1 to 2););", " line 3: not in the grammar"),
 ];
 
@@ -141,7 +141,7 @@ const ITEMS: [Change; 18] = [
         "INSTRUCTION_CAPTURE of DRV : entity is 01",
         " line 13: not in the grammar",
     ),
-    // Each `&` joins two pieces of a string, and nothing else joins them.
+    // The pieces of a string must be joined by `&`, with one `&` between two pieces.
     (
         "Q(1), output2, X),\" &\n",
         "Q(1), output2, X),\"\n",
@@ -157,7 +157,7 @@ const ITEMS: [Change; 18] = [
         "Q(2), output2, X)\" &;",
         " line 17: not in the grammar",
     ),
-    // No item begins with another word. An attribute that is not read has a name and ends with a semicolon.
+    // No item of an entity begins with `signal`. An attribute must have a name and end with a semicolon, even if btest does not read it.
     (
         LAST,
         "signal S : bit;\nend DRV;\n",

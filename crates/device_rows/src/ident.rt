@@ -1,4 +1,4 @@
-// Rows for the command `ident`, which writes the test of the identification codes.
+// Table-driven tests of the command `ident`, which writes the test of the identification codes.
 use run_bench::Text::{Edited, Numbered, Plain};
 use run_bench::{Bench, DRV, Ending, Named, Row, RowFault, Rows, Table, Text, tables_hold};
 use std::alloc::{AllocError, Global};

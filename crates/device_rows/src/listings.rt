@@ -1,4 +1,4 @@
-// Rows for the command `device`: texts that describe a device, and the listing of the device.
+// Table-driven tests of the command `device`. The texts describe a device, and the rows have its listing.
 use run_bench::Text::{Edited, Filled, Plain};
 use run_bench::{
     BUF2, BUF2_LISTING, DRV, DRV1, Ending, RCV, RCV1, RowFault, Rows, Run, Table, tables_hold,
@@ -8,7 +8,7 @@ const DRV_LISTING: &str =
     "ENTITY DRV\nPACKAGE P\nIR 2 SAMPLE 10 IDCODE -\nPORT TDI IN T1\nPORT TMS IN T3\nPORT TCK IN T4\n\
                            PORT TDO OUT T2\nPORT Q OUT 1 2\nCELL 0 OUTPUT2 Q(1) X\nCELL 1 OUTPUT2 Q(2) X\n";
 
-// The changes from the listing of `DRV` to the listing of `DRV1`, the driver of 2001.
+// The changes that turn the listing of `DRV` into the listing of `DRV1`, the driver with a text of the 2001 edition.
 const EDITION: [(&str, &str); 2] = [
     ("ENTITY DRV", "ENTITY DRV1"),
     ("SAMPLE 10 IDCODE", "PRELOAD 00 EXTEST 01 IDCODE"),
@@ -144,12 +144,12 @@ const OTHER_BYTES: [Run; 6] = [
         Edited(DRV, &[("end DRV;\n", "end DRV; -- \x00\u{e9} end")]),
         SAME_LISTING,
     ),
-    // The default package may be a joined string, in any case of letters.
+    // The default package may be joined from several strings. Upper and lower case do not matter.
     (
         Edited(DRV, &[(":= \"P\"", ":= \"\" & \"p\"")]),
         SAME_LISTING,
     ),
-    // Any of the `use` items may name the edition of 2001, in any case of letters.
+    // Any of the `use` items may name the edition of 2001. Upper and lower case do not matter.
     (
         Edited(
             DRV1,
@@ -166,7 +166,7 @@ const OTHER_BYTES: [Run; 6] = [
         ),
         DRV1_LISTING,
     ),
-    // Compliance bits may be of any mode.
+    // Compliance patterns may name ports of any mode.
     (
         Edited(
             DRV,

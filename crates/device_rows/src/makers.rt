@@ -1,4 +1,4 @@
-// Rows for the command `device`: texts like those of some device manufacturers, which btest refuses.
+// Table-driven tests of the command `device`. The texts are like those of some device manufacturers, and btest refuses them.
 use run_bench::Text::Edited;
 use run_bench::{Change, DRV, DRV1, Ending, RowFault, Rows, Run, Table, tables_hold};
 
@@ -55,7 +55,7 @@ const WITHIN_THE_ENTITY: [Change; 5] = [
         " line 3: not in the grammar",
     ),
     ("Q : out", "Q : power_0", " line 3: not in the grammar"),
-    // A string that continues on the next line.
+    // A string that continues on the next line, and a second list of ports.
     ("T3, TCK", "T3,\nTCK", " line 6: string not closed"),
     (
         "use STD_1149_1_1994.all;\n",

@@ -1,4 +1,4 @@
-// Rows for the command `device`: texts that break a rule on attributes, strings, ports, pins or instructions.
+// Table-driven tests of the command `device`. The texts break a rule on attributes, strings, ports, pins or instructions.
 use run_bench::{Change, DRV, DRV1, RowFault, Rows, Table, tables_hold};
 
 const LAST: &str = "end DRV;\n";
@@ -112,7 +112,8 @@ const ATTRIBUTES: [Change; 25] = [
         "constant P : PIN_MAP_STRING := \"\";\nend DRV;\n",
         ": rule V1 item 15",
     ),
-    // btest reports the faulty item of rule V1 with the lowest number. It reports a fault of rule V1 before a fault of a string.
+    // If several items of rule V1 are faulty, btest reports the one with the lowest number. It reports a fault of rule V1 before a fault of
+    // a string.
     (
         "attribute INSTRUCTION_CAPTURE of DRV : entity is \"01\";\nattribute BOUNDARY_LENGTH of DRV : entity is 2;\n",
         "",

@@ -32,7 +32,7 @@ fn every_form_of_token(rt: HostRuntime) -> Result<(), CaseFault> {
     tokens_hold(rt.alloc(), &FORMS)
 }
 
-// All blanks, the first and the last mark (`!` and `~`), and the bytes just outside these ranges, which are neither blanks nor marks.
+// All blanks, the first and the last visible ASCII character (`!` and `~`), and bytes just below and above these, which the lexer refuses.
 static LETTERS: [(Source, Result<(), LexFault>, usize); 9] = [
     (Bytes(b"a\x0bb\x0cc\td e\rf\ng"), Ok(()), 7),
     (Bytes(b"\x08"), Err(Byte(1)), 0),

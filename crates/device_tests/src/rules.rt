@@ -1,4 +1,4 @@
-//! Tests of contents of BSDL texts that break a rule, and of the devices of contents that do not.
+//! Tests of contents of BSDL texts that break a rule, and of the devices that contents without faults describe.
 use device_bench::{CaseFault, Change, draft_holds, orders_hold, rules_hold};
 
 static PORTS_AND_PINS: [(Change, (u32, u32)); 20] = [

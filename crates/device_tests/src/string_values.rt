@@ -25,14 +25,14 @@ static PIN_MAPS: [(&str, Result<&str, u32>); 21] = [
     ("A:1 B:2, C:3", Err(1)),
     ("A:1, B:2 C:3", Err(2)),
     ("A:1, B:(1,2), C:3 D", Err(3)),
-    // A comma at the end, a group that is not closed, and a group without pins.
+    // A comma at the end, a list of pins whose parenthesis is not closed, and an empty list of pins.
     ("A:1, B:2,", Err(3)),
     ("A:1, B:(1,2, C:3", Err(2)),
     ("A:1, B:()", Err(2)),
     // A pin of two words, and a line feed, which is not allowed in a string.
     ("A:1 2, B:3", Err(1)),
     ("A:1, B:2\n, C:3", Err(2)),
-    // A port that begins with `_`, and a vertical tab and a form feed, which are no blanks of a string.
+    // A port that begins with `_`, and a vertical tab and a form feed, which do not count as blanks in a string.
     ("_A:1", Err(1)),
     ("A:1,\x0bB:2", Err(2)),
     ("A:1, B:2\x0c", Err(2)),

@@ -1,4 +1,5 @@
-//! Tests of whole runs in which a read or a write fails, or a text is too long. Each command has such runs.
+//! Tests of whole runs in which a read or a write fails, or a text is too long or faulty. Each command has runs with some of these
+//! failures.
 #![tactic(auto)]
 
 #[cfg(test)]

@@ -1,4 +1,4 @@
-// Rows for the command `batch`, which diagnoses many logs in one text.
+// Table-driven tests of the command `batch`, which diagnoses many logs in one text.
 use run_bench::Text::{Filled, Plain};
 use run_bench::{Bench, CHAIN, Ending, Line, NETS, Row, RowFault, Rows, Run, Table, tables_hold};
 use std::alloc::{AllocError, Global};

@@ -1,4 +1,4 @@
-// Rows for the command `diagnose`, which diagnoses a log.
+// Table-driven tests of the command `diagnose`, which diagnoses a log.
 use crate::groups::{LINKED, LINKED_NETS, PULLED, PULLED_NETS};
 use run_bench::Text::{Plain, Repeated};
 use run_bench::{Ending, Line, Named, Row, RowFault, Rows, Table, tables_hold};

@@ -1,6 +1,6 @@
-// Tests of how the pieces of `diagnose` and `batch` share the work on logs. A command with `w` workers cuts its work into `w` pieces.
-// Before each item of its work, a piece enters a gate with its own number and the number of the item. Pieces and items are numbered from 0.
-// The gates of this file watch these entries.
+// Tests of how `diagnose` and `batch` share their work among workers. With `w` workers, a command divides its work into `w` pieces. Before
+// each item of its work, a piece calls `enter` of a gate with its own number and the number of the item. This call is an entry. Pieces and
+// items are numbered from 0. The gates of this file watch these entries.
 use bt_base::Gate;
 use run_bench::{Bench, CHAIN, Ending, NETS, RowFault, expect};
 use std::alloc::{AllocError, Global};
@@ -205,7 +205,7 @@ const CANDIDATES: [u64; 10] = [0, 1, 4, 5, 6, 7, 12, 13, 14, 15];
 
 const NUMBERS: [u64; 10] = [0, 1, 2, 3, 4, 5, 6, 7, 8, 9];
 
-// The number of workers as a word, and, for each of ten items, the number of the piece that works on it.
+// The number of workers as a word, and, for each of ten items, the number of the piece that the item belongs to.
 type Share = (&'static str, [u64; 10]);
 
 // Piece `p` of `w` pieces works on the items at positions `10 p / w..10 (p + 1) / w` of the list of ten items. Both quotients are rounded
@@ -284,8 +284,8 @@ fn boards_are_shared(rt: HostRuntime) -> Result<(), RowFault> {
 // A log, the output for it, the items with which the two pieces enter the gate, and the piece of each entry.
 type Try = (&'static str, &'static str, &'static [u64], &'static [u64]);
 
-// For a log that passes, the pieces try no single fault. If two nets differ from the expected log, the pieces try only the shorts of these
-// two nets.
+// For the expected log, the pieces try no single fault. If two nets have wrong bits in a log, the pieces try only the shorts of these two
+// nets.
 const TRIES: [Try; 2] = [
     ("1\n2\n", "PASS\n", &[], &[]),
     (

@@ -1,4 +1,4 @@
-// Tests with logs of a generated board of 60 devices, in which some nets read 0 in every row.
+// Tests with logs of a generated board of 60 devices. In each log, the first nets read 0 in every row. All other nets read their codes.
 use run_bench::{Ending, RowFault, sixty_devices_hold};
 use std::alloc::{AllocError, Global};
 
@@ -12,7 +12,7 @@ const DIGITS: [char; 16] = [
 ];
 
 // Returns the code of the net that a cell of a device reads, or 0 if the cell reads no net. Cells 37 to 68 read the outputs of the previous
-// device. The device before the first is the last. Cells 69 to 76 read the bus. The nets of the bus come after all other nets.
+// device. The device before device 1 is the last device. Cells 69 to 76 read the bus. The nets of the bus come after all other nets.
 fn code_at(device: u32, cell: u32) -> u32 {
     let before = if device == 1 {
         DEVICES
@@ -63,8 +63,8 @@ fn row(alloc: Global, row: u32, silent: u32) -> Result<String, AllocError> {
 }
 
 // Returns the log in which the first `silent` nets read 0. Each pass enables the outputs of all devices and the bus pins of one device, so
-// all nets carry their codes in every pass. The bus cells of that device are not compared, so this log can have the bits of the bus for
-// them, too. Then the rows of all passes are equal.
+// all nets carry their codes in every pass. The test does not compare the bus cells of that device, so their bits in a log may have any
+// value. This log gives them the bits of the bus. Then the rows of all passes are equal.
 fn log(alloc: Global, silent: u32) -> Result<String, AllocError> {
     let mut rows = String::new(alloc);
     for number in 0..WIDTH {

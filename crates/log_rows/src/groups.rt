@@ -1,4 +1,4 @@
-// Rows for the command `groups`, which finds the groups of shorted nets in a log of the walking test.
+// Table-driven tests of the command `groups`, which finds the groups of shorted nets in a log of the walking test.
 use run_bench::Text::Plain;
 use run_bench::{Ending, Line, Named, Row, RowFault, Rows, Table, tables_hold};
 
@@ -144,7 +144,7 @@ const ROWS: [Row; 10] = [
         line: LINE,
         ending: Ending::Puts("GROUPS none\n"),
     },
-    // A group lists joined nets by the first of their names.
+    // A group lists a net that was joined from several nets by the first of their names.
     Row {
         texts: &[
             ("c", Plain(LINKED)),

@@ -1,4 +1,4 @@
-// Rows for the command `walk`, which writes the walking test of a board.
+// Table-driven tests of the command `walk`, which writes the walking test of a board.
 use crate::groups::{LINKED, LINKED_NETS, MIXED, MIXED_NETS, PULLED, PULLED_NETS, WALK, WALK_NETS};
 use run_bench::Text::Plain;
 use run_bench::{Ending, Row, RowFault, Rows, SCANS, Table, tables_hold};

@@ -12,7 +12,7 @@ use std::thread::Threads;
 const USAGE: &str =
     "usage: btest chain, device, cover, svf, diagnose, make, ident, walk, groups or batch\n";
 
-/// The texts that a run reads, and the sinks in memory that take its standard output and its standard error.
+/// The texts that a run can read, and the sinks in memory that take its standard output and its standard error.
 #[derive(Drop)]
 pub struct Bench {
     alloc: Global,
@@ -46,8 +46,8 @@ impl Bench {
         Ok(bench)
     }
 
-    /// Returns a bench with the files of a generated board of 60 devices: the chain file `c`, the net file `n` and the BSDL text `gen`. The
-    /// sink has room for the board's tests.
+    /// Returns a bench with the files of a generated board of 60 devices. They are the chain file `c`, the net file `n` and the BSDL text
+    /// `gen`. The sink for standard output has room for the board's tests.
     pub fn with_sixty_devices(alloc: Global) -> Result<Bench, AllocError> {
         let made = make(alloc, 60)?;
         let mut bench = Bench::empty(alloc)?;
@@ -71,7 +71,8 @@ impl Bench {
         self.run_watched(rt, line, &OpenGate)
     }
 
-    /// Like `run`, but with a gate. If the command shares its work among pieces, each piece enters the gate before each item of its work.
+    /// Like `run`, but with a gate. If the command divides its work into pieces for its workers, it calls `enter` of the gate before each
+    /// item of each piece.
     pub fn run_watched(
         &mut self,
         rt: &(impl Threads + Sync),

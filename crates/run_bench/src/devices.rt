@@ -208,7 +208,8 @@ attribute BOUNDARY_REGISTER of OD : entity is
 end OD;
 "#;
 
-/// Like `DRV`, but with a text of the 2001 edition of the standard (IEEE 1149.1-2001).
+/// Like `DRV`, but in the BSDL of the 2001 edition of the standard (IEEE 1149.1-2001). PRELOAD has a code of its own, and the code of
+/// EXTEST is not all zeros.
 pub const DRV1: &str = r#"entity DRV1 is
 generic (PHYSICAL_PIN_MAP : string := "P");
 port (TDI, TMS, TCK : in bit; TDO : out bit; Q : out bit_vector(1 to 2));
@@ -264,7 +265,7 @@ entity buf2 is
 end buf2;
 "#;
 
-/// The listing that btest writes of the device `BUF2`.
+/// The listing that btest writes for the device `BUF2`.
 pub const BUF2_LISTING: &str = r#"ENTITY BUF2
 PACKAGE DW
 IR 2 SAMPLE 10 IDCODE -

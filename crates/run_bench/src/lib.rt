@@ -1,5 +1,5 @@
-//! Helpers for the crates that test whole runs of btest, with texts and sinks in memory. The call of the program is proved here once, and
-//! no contract says how a run ends. So a test that calls a helper has little to prove.
+//! Helpers for the crates that test whole runs of btest, with texts and sinks in memory. The call of the program is proved here once. The
+//! contracts of the helpers do not say how a run ends, so a test that calls a helper has little to prove.
 #![tactic(auto)]
 
 mod bench;

@@ -8,8 +8,9 @@ use std::alloc::{AllocError, Global};
 use std::thread::Threads;
 use thiserror::Error;
 
-/// The expected result of a run: its status, its output and its refusal line. The output goes to standard output, and the refusal line to
-/// standard error. If a variant has no output or no refusal line, the run must write none. For `Done` alone, the run may write anything.
+/// The expected result of a run: its status, its output and its refusal line. The output is what the run writes to standard output. The
+/// refusal line is what it writes to standard error, the reason why it is not successful. If a variant has no output or no refusal line,
+/// the run must write none. The variant `Done` is an exception: with it, only the status is compared.
 #[derive(Clone, Copy)]
 pub enum Ending<'a> {
     /// The status is `Done`, and the output is this text.
@@ -65,8 +66,8 @@ pub type Run = (Text, Ending<'static>);
 /// A command line or a log, and the expected result of the run with it.
 pub type Line = (&'static str, Ending<'static>);
 
-/// A piece of a BSDL text, the text that replaces it, and the refusal line for the changed text, without the name of the text at its
-/// beginning and the line feed at its end.
+/// A part of a BSDL text, the text that replaces it, and the refusal line for the changed text. The refusal line is given without the name
+/// of the text at its beginning and without the line feed at its end.
 pub type Change = (&'static str, &'static str, &'static str);
 
 /// A chain file, a net file, the names of the BSDL texts, and the expected refusal line. Single spaces separate the names.
@@ -87,12 +88,12 @@ pub enum Rows {
     Texts(&'static str, &'static str, &'static [Run]),
     /// A BSDL text, and changes to it. The command `device` must refuse the text after each change.
     Devices(&'static str, &'static [Change]),
-    /// Texts that denote no board. Each command that reads a board must refuse them with the line of the case.
+    /// Texts that do not describe a board. Each command that reads a board must refuse them with the refusal line of the case.
     Boards(&'static [Case]),
     /// Command lines that are not valid. The first read would fail, so the rows show that btest reads nothing.
     NoCommands(&'static [&'static str]),
-    /// Command lines, a word with a space before it, and numbers. For each number, each line is run with the word appended this many
-    /// times.
+    /// Command lines, a word with a space before it, and numbers with expected results. For each number, each line is run with the word
+    /// appended this many times.
     Words(&'static [&'static str], &'static str, &'static [(usize, Ending<'static>)]),
 }
 

@@ -1,48 +1,48 @@
-// The texts of rows. A large text is built only when its row runs.
+// The texts that the rows of a test table use. A row (`Row`) is a run of the program with its expected result. A large text is built only
+// when its row is run.
 use bt_base::MemStore;
 use std::alloc::{AllocError, Global};
 
-/// A text of a row.
+/// A text that a row uses.
 #[derive(Clone, Copy)]
 pub enum Text {
     /// These characters.
     Plain(&'static str),
     /// These bytes, which may be invalid UTF-8.
     Bytes(&'static [u8]),
-    /// A text after edits, which apply in turn. An edit has a piece and its replacement, and it replaces every occurrence of the piece.
+    /// A text after edits, which apply in turn. Each edit replaces every occurrence of its first string with its second string.
     Edited(&'static str, &'static [(&'static str, &'static str)]),
-    /// A piece that is repeated this many times.
+    /// A string that is repeated this many times.
     Repeated(&'static str, usize),
     /// The first lines of a text, followed by another text. The number is the number of lines to take.
     Front(&'static str, usize, &'static str),
-    /// The first lines of a text, followed by a head, a piece that is repeated, and a tail.
+    /// The first lines of a text, followed by a head, a string that is repeated, and a tail.
     Filled {
         /// The text from which the lines are taken.
         of: &'static str,
         /// The number of lines to take from the text.
         lines: usize,
-        /// The text before the pieces.
+        /// The text before the repeated string.
         head: &'static str,
-        /// The piece.
+        /// The repeated string.
         piece: &'static str,
-        /// The number of pieces.
+        /// The number of times that the string is repeated.
         count: usize,
-        /// The text after the pieces.
+        /// The text after the repeated string.
         tail: &'static str,
     },
-    /// A head, followed by a piece for each number of `first..end`. The number replaces each `#` of the
-    /// piece.
+    /// A head, followed by one copy of a string for each number of `first..end`. In each copy, the number replaces each `#`.
     Numbered {
-        /// The text before the pieces.
+        /// The text before the copies.
         head: &'static str,
-        /// The piece.
+        /// The string of which the copies are made.
         piece: &'static str,
         /// The first number.
         first: u32,
         /// The number after the last number.
         end: u32,
     },
-    /// The BSDL text of a device with this name. The device has only internal cells, and this is their number, which must be at least 1.
+    /// The BSDL text of a device with this name and this number of boundary cells, which must be at least 1. All the cells are internal.
     Cells(&'static str, u32),
 }
 

@@ -1,6 +1,6 @@
 // Tests of the messages of faults and of their refusal lines, which btest writes to standard error. In most tables, a row has a fault, the
-// start of its refusal line, and its message. The refusal line is the start followed by the message, and in some tables by an end. The
-// start names the file, since the fault does not know this name. The lines for lack of memory and for a limit name no file.
+// start of its refusal line, and its message. The refusal line consists of the start, the message and, in some tables, an end. The start
+// names the file, since the fault does not know this name. The lines for lack of memory and for a limit name no file.
 use batch_diag::BatchFault;
 use board_build::BoardFault;
 use board_defs::Spot;

@@ -1,4 +1,5 @@
-// Rows for texts that do not describe a board, with the refusal line for the first fault of the texts.
+// Table-driven tests of texts that do not describe a board, and of texts that are just within a limit. For texts that do not describe a
+// board, a row has the refusal line, which is the line on standard error that reports the first fault of the texts.
 use run_bench::Text::{Edited, Numbered, Plain};
 use run_bench::{CHAIN, Case, Ending, NETS, Named, RCV1, RowFault, Rows, Run, Table, tables_hold};
 
@@ -76,7 +77,7 @@ const NET_FILES: [Case; 15] = [
         "drv rcv",
         "n line 2 word 3: pin in two nets\n",
     ),
-    // Both nets name the pin twice.
+    // Both nets name the pin U1.1 twice.
     (
         CHAIN,
         "NET N1 U1.1 U1.1\nNET N2 U2.1 U1.1 U1.1",
@@ -155,14 +156,14 @@ const LINKS_AND_PULLS: [Case; 8] = [
         "drv rcv",
         "n line 1 word 3: driver on a guarded net\n",
     ),
-    // Each joined net has a driver that is always on.
+    // Each of the two nets that the LINK line joins has a driver that is always on.
     (
         "DEVICE U1 DRV -\nDEVICE U2 DRV -\nLINK R1 1 2",
         "NET N1A U1.1 R1.1\nNET N1B R1.2 U2.1",
         "drv",
         "n line 2 word 4: two drivers always on\n",
     ),
-    // btest refuses a SUPPLY line that names no net, even if there are LINK lines.
+    // btest refuses a SUPPLY line if the net file does not have its net, even if there are LINK lines.
     (
         "DEVICE U1 DRV -\nDEVICE U2 RCV -\nLINK R1 1 2\nSUPPLY GND",
         LINK_NETS,
@@ -277,7 +278,7 @@ const MANY_PINS: [Run; 3] = [
             "SIR 2 TDI (3) TDO (1) MASK (3);\nSDR 1 TDI (0);\nSIR 2 TDI (3) TDO (1) MASK (3);\n",
         ),
     ),
-    // A pin in two nets also counts once, so btest reports the fault of this pin and not the limit.
+    // A pin in two nets also counts once, so there are not too many pins, and btest reports that this pin is in two nets.
     (
         Numbered {
             head: "NET M X.0\nNET N",

@@ -1,6 +1,6 @@
-// Rows for the command `cover`. It lists the nets that are not covered, each with the reason. For the covered nets, it lists the drivers,
-// the receivers and the pairs of nets that no safe setting tests. A net is covered if some safe setting observes it. A setting is a set of
-// enabled controls. A safe setting enables at most one driver of each net, among other rules.
+// Table-driven tests of the command `cover`. It lists the nets that are not covered, each with the reason. For the covered nets, it lists
+// the drivers, the receivers and the pairs of nets that no safe setting tests. A net is covered if some safe setting observes it. A setting
+// is a set of enabled controls. A safe setting enables at most one driver of each net, among other rules.
 use run_bench::Text::{Edited, Numbered, Plain};
 use run_bench::{CHAIN, Ending, NETS, Named, RCV1, Row, RowFault, Rows, Run, Table, tables_hold};
 
@@ -100,8 +100,8 @@ const LONG_NAMES: [Row; 1] = [Row {
 
 const WITH_RAM: Named = ("n", Plain("NET N1 U1.1 U2.1 RAM.7\nNET N2 U1.2 U2.2"));
 
-// A net is dark if it has a pin of a part with neither a description nor an INERT line, since this part may drive the net. btest reports a
-// dark net as DARK unless the reason SUPPLY or TESTPORT applies.
+// Something that no boundary cell controls may drive a dark net. For example, a net is dark if it has a pin of a part with neither a
+// description nor an INERT line. btest reports a dark net as DARK unless the reason SUPPLY or TESTPORT applies.
 const DARKENED: [Row; 5] = [
     // The chain file gives only the length of U3's instruction register, so U3 may drive the net.
     Row {
@@ -157,7 +157,7 @@ const DARKENED: [Row; 5] = [
     },
 ];
 
-// For the covered nets, the list has the drivers and receivers that no safe setting tests, and the pairs of nets that no safe setting
+// For the covered nets, btest lists the drivers and receivers that no safe setting tests, and the pairs of nets that no safe setting
 // observes together.
 const UNTESTED: [Row; 6] = [
     Row {
@@ -267,7 +267,7 @@ const LINKS: [Row; 3] = [
     },
 ];
 
-// Rows in which the nets of a driver and a receiver are covered, and rows about names.
+// Rows with covered nets, each with a driver and a receiver, and rows about names.
 const COVERED: [Row; 6] = [
     Row {
         texts: &[("c", Plain(CHAIN)), ("n", Plain(NETS))],

@@ -1,4 +1,4 @@
-// A test that the files of every generated board describe a board.
+// A test that the generated files describe a board, for each number of devices from 1 to 255.
 ghost use Rattle.std.specs.Prelude.{◌≤◌};
 
 use board_gen::make;

@@ -4,8 +4,8 @@ use run_bench::{Bench, CHAIN, Ending, NETS, RowFault, Text};
 use std::alloc::Global;
 use std::thread::Threads;
 
-// A kind of file: the name of the table for its words, the name of the text, the command line that reads the text, and the refusal line for
-// a word that is too long.
+// A kind of file, which is the chain file or the net file. The fields are the name of the test table for its words, the name of the text,
+// the command line that reads the text, and the refusal line for a word that is too long.
 #[derive(Drop)]
 struct File {
     table: &'static str,
@@ -42,7 +42,7 @@ const NO_ENTITY: Ending<'static> = Ending::Refused("c line 1: entity not given\n
 
 const NO_NUMBER: Ending<'static> = Ending::Refused("c line 1: number not allowed\n");
 
-// A row for each word that follows the first word of a statement.
+// A row for each kind of statement and each word in it, except the first word.
 static CHAINS: [Long; 12] = [
     ("BYPASS ", 255, " 2", ONE_PART),
     ("BYPASS U1 ", 255, "", NO_NUMBER),

@@ -1,4 +1,4 @@
-// Rows for the command `make`, which writes the summary of a generated board.
+// Table-driven tests of the command `make`, which writes the summary of a generated board.
 use run_bench::{Ending, Line, Row, RowFault, Rows, Table, Trouble, tables_hold};
 
 const TWO: Ending<'static> = Ending::Puts(

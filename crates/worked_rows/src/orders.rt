@@ -1,5 +1,5 @@
-// Rows for texts with two faults, and rows for the order of the BSDL texts. btest checks for one of the two faults right before the other,
-// and must report the fault that it checks for first.
+// Table-driven tests of texts with two faults, and of the order of the BSDL texts on the command line. If a row has texts with two faults,
+// btest checks for one fault right before the other, and must report the fault that it checks for first.
 use run_bench::Text::{Cells, Numbered, Plain};
 use run_bench::{
     CHAIN, Case, Ending, Line, NETS, Row, RowFault, Rows, Run, SCANS, Table, Text, tables_hold,
@@ -99,7 +99,7 @@ const ANY_ORDER: [Line; 3] = [
     ("svf c n ts rcv bi drv", Ending::Scans(SCANS)),
 ];
 
-// Chains of 256 parts, one more than a chain may have. btest checks first that no entity is given twice.
+// Chains of 256 parts, one more than a chain may have. btest first checks whether two BSDL texts have the same entity.
 const MANY_PARTS: [Run; 2] = [
     (
         Numbered {
@@ -180,7 +180,7 @@ const LIMITS: [Row; 4] = [
     },
 ];
 
-// In the first run, the board breaks a rule, and the log is faulty, too. In the second run, the log has a wrong row and too many rows.
+// In the first row, the board breaks a rule, and the log is faulty, too. In the second row, the log has a wrong line and too many lines.
 const LOGS: [Row; 2] = [
     Row {
         texts: &[

@@ -1,8 +1,8 @@
 // Tests on a board of realistic size: 60 devices with 1,928 nets and 4,620 boundary cells.
 use run_bench::{Ending, Line, RowFault, sixty_devices_hold};
 
-// The listing of the device. Cells 0 to 4 are control cells. The cells of the outputs, of the inputs and of the bus follow. Each of the
-// first four control cells enables eight outputs, and the fifth enables the bus.
+// The listing of the device. Cells 0 to 4 are control cells. The cells of the outputs, of the inputs and of the bus pins follow. Each of
+// the first four control cells enables eight outputs, and the fifth enables the bus pins.
 const LISTING: &str = r#"ENTITY GEN
 PACKAGE P
 IR 2 SAMPLE 10 IDCODE -
@@ -93,9 +93,9 @@ CELL 76 BIDIR B(7) X 4 1
 "#;
 
 // A scan of 4,620 bits has 1,155 digits on 19 lines, so an SDR statement has 1,190 bytes, or 3,551 if it compares. An SIR statement has 121
-// bytes. The head has 59 bytes and the tail 13. Two SIR statements and an SDR statement come before the passes. Each of the 60 passes has
-// one SDR statement that does not compare and eleven that do, since 1,928 codes need 11 bits. In the walking test each net has a row, and
-// one SDR statement does not compare.
+// bytes. The lines before the scans have 59 bytes, and the line after the scans has 13. Two SIR statements and an SDR statement come before
+// the passes. Each of the 60 passes has one SDR statement that does not compare and eleven that do, since 1,928 codes need 11 bits. The
+// walking test has one SDR statement that does not compare, and one that compares for each net.
 const LINES: [Line; 4] = [
     ("device gen", Ending::Puts(LISTING)),
     ("svf c n gen", Ending::Long(2_416_564)),

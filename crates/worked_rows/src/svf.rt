@@ -1,4 +1,4 @@
-// Rows for the command `svf`, which writes the test of a board as SVF text.
+// Table-driven tests of the command `svf`, which writes the test of a board as SVF text.
 use run_bench::Text::{Cells, Edited, Plain, Repeated};
 use run_bench::{
     BI, CHAIN, Ending, NETS, RCV1, Row, RowFault, Rows, SCANS, TS, Table, Trouble, tables_hold,
@@ -35,7 +35,8 @@ const CODES: [Row; 5] = [
              SDR 5 TDI (01);\nSDR 5 TDI (02) TDO (08) MASK (18);\nSDR 5 TDI (00) TDO (10) MASK (18);\n",
         ),
     },
-    // The pass for net A's driver, which is always on, starts without a control, and then adds the control of net B's driver.
+    // btest begins the pass for net A's driver without a control, since this driver is always on. Then it adds the control of net B's
+    // driver.
     Row {
         texts: &[
             (
@@ -161,7 +162,7 @@ const LINKED: [Row; 2] = [
 
 // Boards with passes that are needed only to observe two nets together. On the first board, the third pass is needed for A and D, and the
 // fourth for B and C. On the second board, the last pass is needed for A and C. The driver of A can be enabled together with either driver
-// of C, and this pass enables the driver of C that its net names first.
+// of C, and this pass enables the driver that net C names first.
 const TOGETHER: [Row; 2] = [
     Row {
         texts: &[
@@ -353,7 +354,7 @@ const SAFE: [Row; 4] = [
     },
 ];
 
-// The change that makes the safe value of a control enable its driver.
+// The change to a control cell after which its safe value enables the driver.
 const UNSAFE_CONTROL: (&str, &str) = ("*, control, 1)", "*, control, 0)");
 
 // The changes that make a receiver an open-drain output. The value 1 of its cell disables it, and the safe value of the cell is 0.
@@ -363,7 +364,8 @@ const OWN_CONTROL: [(&str, &str); 3] = [
     ("D, input, X", "D, output2, 0, 0, 1, WEAK1"),
 ];
 
-// The cell of a bidirectional pin reads the net while another part drives the net, but not while the pin itself drives it.
+// The test compares the cell of a bidirectional pin in the passes in which another part drives the net, but not in those in which the pin
+// itself drives it.
 const BOTH_WAYS: [Row; 2] = [
     Row {
         texts: &[
@@ -396,8 +398,7 @@ const SELF_READING: [(&str, &str); 2] = [
     ("control, 1)\"", "control, 1), 2 (BC_1, Q, input, X)\""),
 ];
 
-// A cell with the function CLOCK reads the net. A cell with the function OBSERVE_ONLY does not, and neither does an INPUT cell of an output
-// pin.
+// The test compares a CLOCK cell of an input pin. It compares neither an OBSERVE_ONLY cell nor an INPUT cell of an output pin.
 const READERS: [Row; 3] = [
     Row {
         texts: &[
