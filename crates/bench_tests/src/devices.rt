@@ -333,8 +333,8 @@ fn wrong_orders_are_noticed(rt: HostRuntime) -> Result<(), CaseFault> {
     expect(rt.alloc(), 0, names(&answer, 1, "V2 item 5"))
 }
 
-// The number of the call of `put` that fails, counted from 1, the number of bytes that the sink then has, and the last of these bytes. In
-// each pair, only the first case is right.
+// The number of the call of `put` that fails, counted from 1, the number of bytes that the sink then has, and a text with which these
+// bytes end. In each pair, only the first case is right.
 static CUTS: [[(u32, usize, &str); 2]; 2] = [
     [(4, 45, ""), (5, 1068, "")],
     [(4, 45, ""), (6, 2055, " 598\n")],

@@ -155,7 +155,8 @@ const NO_STATEMENTS: [Run; 17] = [
 
 const NO_STATEMENT: Ending<'static> = Ending::Refused("c line 1: no statement\n");
 
-// Words with a byte that is not allowed. The last rows have numbers that are not allowed, and names with dots, which are allowed.
+// Statements with a byte that is not allowed in a word. A dot is not allowed in the name of a part or in a LINK pin. The next two rows
+// have numbers that are not allowed. The last row has dots in an entity name and a package name, where they are allowed.
 const WORDS: [Run; 11] = [
     (Plain("BYPASS U\x7f 2"), NO_WORD),
     (Plain("BYPASS U\u{e9} 2"), NO_WORD),
