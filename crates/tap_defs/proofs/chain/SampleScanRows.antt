@@ -1,5 +1,5 @@
--- The rows of a scan of three bits: a 1 that is compared with 0, a 0 that is compared with 1, and a 1 that is not
--- compared.
+-- The TDI, TDO and MASK rows of a scan of three bits. The first bit shifts in 1 and expects 0, the second shifts in 0 and
+-- expects 1, and the third shifts in 1 and is not compared.
 use Rattle.std.proofs.Common.{Bool, true, false, [], ◌∷◌, Option, Some, None, refl}
 use Rattle.tap_defs.specs.chain.Scan.{ScanBit}
 use Rattle.tap_defs.specs.chain.ScanRows.{AreBitsOf}

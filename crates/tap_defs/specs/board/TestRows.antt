@@ -31,7 +31,8 @@ observing_driver_by board net None = None
 observing_driver_by board net (Some place) = cond (reads_beside board place 0 net.pins) (Some place) None
 
 -- The place of the driver by which the setting observes the net, or None if it does not observe the net. A setting
--- observes an unguarded net if it enables a driver on the net and another pin of the net is a receiver.
+-- observes an unguarded net if it enables a driver on the net and another pin of the net is a receiver. A safe setting
+-- enables at most one driver of the net. Of several enabled drivers, only the first counts.
 abbrev pub observing_driver : RawBoard → Enabling → Net → Option ℕ
 observing_driver board setting net =
     cond (guarded board net) None (observing_driver_by board net (first_enabled board setting 0 net.pins))
