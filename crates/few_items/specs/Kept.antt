@@ -1,4 +1,4 @@
--- The items of a list, in order.
+-- The items of a list that is stored as `Kept`, in order.
 use Rattle.std.specs.Prelude.{List, [], ◌∷◌}
 use Rattle.few_items.specs.declared.few.Kept.{Kept}
 use Rattle.few_items.specs.declared.few.Kept.TheVariants.{Nothing, One, Two, More}

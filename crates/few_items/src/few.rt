@@ -5,7 +5,7 @@ use std::alloc::{AllocError, Global};
 use std::marker::Model;
 use std::slice;
 
-// The storage of a list: up to two items are in the value itself, and more items are in a vector.
+// The storage of a list. Up to two items are in the value itself. `More` has all items in a vector.
 #[derive(Debug, Drop)]
 enum Kept<T> {
     Nothing,
@@ -14,7 +14,8 @@ enum Kept<T> {
     More(Vec<T>),
 }
 
-/// A list that allocates no memory for up to two items.
+/// A list that allocates no memory for up to two items, unless `with_capacity` reserved room for
+/// more.
 #[derive(Debug, Drop)]
 pub struct Few<T> {
     kept: Kept<T>,

@@ -14,7 +14,7 @@ use Rattle.tap_defs.proofs.chain.SampleRun.{choices, no_wiring, pausing, shiftin
 use Rattle.ident_test.specs.Patterns.{ident_scan, ident_text}
 use Rattle.ident_test.specs.CodedParts.{AreCoded, all_fit}
 
--- the pattern XXXX0001001000110100000000000111; the first symbol is nearest TDO
+-- the pattern XXXX0001001000110100000000000111; its last symbol is nearest TDO and comes first in the list
 abbrev known_part : List Symbol
 known_part =
     One ∷ One ∷ One ∷ Zero ∷ Zero ∷ Zero ∷ Zero ∷ Zero ∷ Zero ∷ Zero ∷ Zero ∷ Zero

@@ -13,7 +13,7 @@ abbrev pub IsCoded : Option (List Symbol) → TestLogic → Type 0
 IsCoded (Some pattern) part = (part.at_reset ≡ Some Idcode) × (length part.idcode ≡ 32)
 IsCoded None part = part.at_reset ≡ Some Bypass
 
--- There are as many parts as patterns, and each part is coded with the pattern at its place.
+-- There are as many parts as patterns, and each part is coded for the pattern at its place.
 abbrev pub AreCoded : List (Option (List Symbol)) → List TestLogic → Type 0
 AreCoded [] [] = Unit {0}
 AreCoded [] (part ∷ parts) = ⊥
@@ -26,7 +26,8 @@ symbol_fits Zero bit = not bit
 symbol_fits One bit = bit
 symbol_fits Any bit = true
 
--- True if each bit of the code fits its symbol. The first bit and the first symbol are nearest TDO.
+-- True if each bit of the code fits its symbol. The first bit and the first symbol are nearest TDO. Bits or symbols past
+-- the end of the shorter list are ignored.
 abbrev pub code_fits : List Symbol → List Bool → Bool
 code_fits (symbol ∷ pattern) (bit ∷ code) = symbol_fits symbol bit && code_fits pattern code
 code_fits _ _ = true

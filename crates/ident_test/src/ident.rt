@@ -1,4 +1,5 @@
-// The SVF text of the identity test.
+// The SVF text of the identity test. A row has the bits of TDI, TDO or MASK of a scan, and its room
+// is the largest number of bits that it can have.
 ghost use Rattle.std.specs.Prelude.{◌≡◌, ◌+◌, ◌<◌, ◌≤◌, false, length, map, replicate, unwrap_or, is_some, All, IfSome};
 ghost use Rattle.board_defs.specs.Limits.{most_bits, most_parts};
 ghost use Rattle.bt_base.specs.Puts.{Puts};
@@ -67,8 +68,8 @@ fn is_compared(symbol: Symbol) -> bool
 }
 
 // Writes the expected bits and the mask bits of one register into the rows. The register's lowest
-// bit is at position `at`. Both rows must have a position for each symbol, and no position may be
-// past `most_bits`.
+// bit is at position `at`. Both rows must have a position for each symbol, and `at` plus the number
+// of symbols must be at most `most_bits`.
 fn set_register(at: u32, pattern: &[Symbol], tdo: &mut Row, mask: &mut Row)
     requires few { at + length pattern.now ≤ most_bits }
     requires tdo { at + length pattern.now ≤ length tdo.old.bits }
@@ -155,9 +156,9 @@ fn put_scan<K: Sink>(
 /// part, and compares this bit with the 0 of the bypass register.
 ///
 /// There must be 1 to 255 parts, each pattern must have 32 symbols, and the rows must have room for
-/// the scan. The call allocates nothing. The rows and the line are scratch space, and their
-/// contents are unspecified afterwards. The call fails only if the sink fails. The sink has then
-/// taken a prefix of the text.
+/// the scan. The call allocates nothing. The rows, and the buffer `line` for one line of text, are
+/// scratch space. Their contents are unspecified afterwards. The call fails only if the sink fails.
+/// The sink has then taken a prefix of the text.
 pub fn write_ident<K: Sink>(
     parts: &[Option<Code>],
     tdi: &mut Row,

@@ -1,5 +1,5 @@
-//! Vectors whose values in contracts are lists, flags that are set by place, tables that have a list in each row, and vectors of the items
-//! that pass a test.
+//! Helpers for lists: a vector whose value in contracts is the list of its items (`Items`), flags that are read and set by their place,
+//! tables in which each row is a list, and a push that appends an item only if a condition is true.
 #![tactic(auto)]
 
 mod flags;

@@ -1,9 +1,10 @@
-// Vectors of the items that pass a test.
+// Appending an item to a vector under a condition.
 ghost use Rattle.std.specs.Prelude.{◌≡◌, ◌++◌, ◌∷◌, [], if◌then◌else◌, OnOk};
 
 use std::alloc::AllocError;
 
-/// Appends the item if `passes` is true.
+/// Appends the item if `passes` is true. If memory runs out, the content of the vector is
+/// unspecified.
 pub fn push_if<T: Drop>(items: &mut Vec<T>, item: T, passes: bool) -> Result<(), AllocError>
     ensures { OnOk result
         (items.new.items ≡ items.old.items ++ (if passes then item ∷ [] else [])) }

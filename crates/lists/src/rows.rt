@@ -1,4 +1,4 @@
-// Tables with a list in each row.
+// Tables in which each row is a list.
 ghost use Rattle.std.specs.Prelude.{◌≡◌, [], Some, replicate, IfOk, OnOk};
 ghost use Rattle.lists.specs.Rows.{noted};
 
@@ -17,7 +17,7 @@ pub fn blank<T: Drop>(alloc: Global, count: usize) -> Result<Vec<Items<T>>, Allo
 }
 
 /// Appends the item to the list at `place`, counted from 0. Does nothing past the end. If memory
-/// runs out, the content of the list is unspecified.
+/// runs out, the content of the table is unspecified.
 pub fn note<T: Drop>(rows: &mut [Items<T>], place: usize, item: T) -> Result<(), AllocError>
     ensures { OnOk result (rows.new ≡ noted rows.old (Some place) item) }
 {

@@ -21,7 +21,7 @@ impl Model for ShortText {
 }
 
 impl ShortText {
-    /// Creates a text with these bytes.
+    /// Creates a text with these bytes. There must be fewer than 2^32 bytes.
     pub fn of(bytes: Vec<u8>) -> ShortText
         requires { length bytes.items < 2 ^ 32 }
         ensures { result ≡ bytes.items }
@@ -71,7 +71,8 @@ impl Model for ShortTexts {
 }
 
 impl ShortTexts {
-    /// Takes ownership of these texts.
+    /// Takes ownership of these texts. There must be fewer than 2^32 texts, and each must have
+    /// fewer than 2^32 bytes.
     pub fn of(texts: Vec<Vec<u8>>) -> ShortTexts
         requires each { All (λ text. length text.items < 2 ^ 32) texts.items }
         requires few { length texts.items < 2 ^ 32 }

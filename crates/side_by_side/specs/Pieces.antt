@@ -1,5 +1,5 @@
--- The pieces of a list of items, and the joined answers for the pieces. The answer for a piece is the list or the fault that the work on
--- the piece returns.
+-- The pieces of a list of items, each a range of consecutive items, and the joined answers for the pieces. The answer for
+-- a piece is the list or the fault that the work on the piece returns.
 use Rattle.std.specs.Prelude.{◌≡◌, ℕ, ◌+◌, ◌*◌, ◌/◌, ◌<◌, ◌⊎◌, ◌-◌, List, [], ◌∷◌, ◌++◌, length, take, drop, slice_index_or, Result, Ok, Err}
 use Rattle.side_by_side.specs.declared.pieces.Piece.{Piece}
 

@@ -5,7 +5,8 @@ ghost use Rattle.side_by_side.specs.Pieces.{piece_of};
 
 /// Each piece begins where the piece before it ends. The first piece begins with the first item,
 /// and the last piece ends with the last item. The numbers of items in any two pieces differ by at
-/// most one. Piece `number` begins at item `number * items / pieces`, rounded down.
+/// most one. Piece `number` begins at item `number * items / pieces`, rounded down. There must be at
+/// least one piece.
 pub fn pieces_share()
     ensures number { (items pieces number : ℕ) → (piece_of items pieces number).number ≡ number }
     ensures first { (items pieces : ℕ) → (piece_of items pieces 0).first ≡ 0 }

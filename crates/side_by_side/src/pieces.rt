@@ -40,7 +40,7 @@ fn piece_of(items: u64, pieces: u32, number: u32) -> Piece
 }
 
 // Joins the lists of the answers in order. Returns the first fault if some answer is a fault, or
-// the fault of memory if memory runs out.
+// the fault for a lack of memory if memory runs out.
 fn together<T: Drop, E: From<AllocError> + Drop>(
     alloc: Global,
     answers: Vec<Result<Vec<T>, E>>,
@@ -60,9 +60,9 @@ fn together<T: Drop, E: From<AllocError> + Drop>(
 }
 
 /// Cuts the items into `pieces` pieces, does the work on each piece, and joins the resulting lists
-/// in order. Returns the fault of the first piece that has a fault. If memory for the pieces
-/// themselves runs out, the call may return the fault of memory instead. `pieces` must not be 0,
-/// and `work` must accept each piece.
+/// in order. Returns the fault of the first piece that has a fault. If memory for running
+/// the pieces or for joining their lists runs out, the call may return the fault for a lack of memory
+/// instead. `pieces` must not be 0, and the precondition of `work` must hold for each piece.
 ///
 /// The numbers of items in any two pieces differ by at most one. The pieces run side by side. If
 /// there is only one piece, its list is returned unchanged and needs no more memory.

@@ -27,7 +27,7 @@ impl Model for Workers {
 }
 
 impl Workers {
-    /// Returns `number` workers. `number` must be from 1 to 64.
+    /// Returns a `Workers` with this number, which must be from 1 to 64.
     pub fn of(number: u32) -> Workers
         requires some { 1 ≤ number }
         requires few { number ≤ most_workers }

@@ -51,7 +51,7 @@ pub length-scan_bits : (tdi tdo mask : List Bool) → length tdo ≡ length tdi
     → length mask ≡ length tdi → length (scan_bits tdi tdo mask) ≡ length tdi
 length-scan_bits tdi tdo mask o m = sym (length-map (scan_bits tdi tdo mask) (λ b. b.tdi)) ∙ ap length (tdi_bits-scan_bits tdi tdo mask o m)
 
--- The conditions on the rows of a written scan. They have equal lengths, MASK has a 1 wherever TDO has a 1, and
+-- The conditions on the TDI, TDO and MASK rows of a scan that is written. They have equal lengths, MASK has a 1 wherever TDO has a 1, and
 -- `compare` says whether MASK has a 1.
 pub record Written (tdi tdo mask : List Bool) (compare : Bool) : Type 0 where
   pub same_tdo : length tdo ≡ length tdi

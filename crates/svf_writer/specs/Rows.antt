@@ -1,4 +1,4 @@
--- Conditions on the rows of a written scan.
+-- Conditions on the TDI, TDO and MASK rows of a scan that is written.
 use Rattle.std.specs.Prelude.{◌≡◌, ℕ, ◌+◌, ◌≤◌, Bool, true, false, List, length, slice_index_or, sum}
 
 -- MASK has a 1 wherever TDO has a 1

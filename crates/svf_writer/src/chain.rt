@@ -1,4 +1,5 @@
-// The SVF text of the chain test.
+// The SVF text of the chain test. A row has the bits of TDI, TDO or MASK of a scan, and its room is
+// the largest number of bits that it can have.
 ghost use Rattle.std.specs.Prelude.{◌≡◌, ◌+◌, ◌<◌, ◌≤◌, true, false, length, sum, replicate, slice_set, All};
 ghost use Rattle.board_defs.specs.Limits.{most_bits, most_parts, IsInstructionLength};
 ghost use Rattle.bt_base.specs.Puts.{Puts};
@@ -195,9 +196,9 @@ fn write_scans<K: Sink>(
 /// at TDO `n` bits later.
 ///
 /// There must be 1 to 255 parts with lengths from 2 to 255 bits, and the rows must have room for
-/// both scans. The call allocates nothing. The rows and the line are scratch space, and their
-/// contents are unspecified afterwards. The call fails only if the sink fails. The sink has then
-/// taken a prefix of the text.
+/// both scans. The call allocates nothing. The rows, and the buffer `line` for one line of text, are
+/// scratch space. Their contents are unspecified afterwards. The call fails only if the sink fails.
+/// The sink has then taken a prefix of the text.
 pub fn write_chain<K: Sink>(
     lengths: &[u32],
     tdi: &mut Row,

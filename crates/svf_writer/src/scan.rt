@@ -1,4 +1,5 @@
-// The SVF text of one scan.
+// The SVF text of one scan. `line` is a buffer in which each line is made before it is written. A
+// row has the bits of TDI, TDO or MASK.
 ghost use Rattle.std.specs.Prelude.{◌≡◌, ◌↔◌, ◌+◌, ◌*◌, ◌<◌, ◌≤◌, [], ◌∷◌, ◌++◌, true, false, length, take, drop, IsTrue};
 ghost use Rattle.std.specs.List.{list_any};
 ghost use Rattle.board_defs.specs.Limits.{most_bits};
@@ -218,9 +219,9 @@ fn put_lines<K: Sink>(
 /// of at most 64 digits. Each put to the sink writes one line.
 ///
 /// The rows must have the same length, from 1 to 65,535 bits. `shape.compare` must say whether the
-/// mask has a 1. Wherever TDO has a 1, the mask must have a 1. The call allocates nothing. The line
-/// is scratch space, and its content is unspecified afterwards. The call fails only if the sink
-/// fails. The sink has then taken a prefix of the text.
+/// mask has a 1. Wherever TDO has a 1, the mask must have a 1. The call allocates nothing. `line`
+/// is a buffer for one line of text, and its content is unspecified afterwards. The call fails only
+/// if the sink fails. The sink has then taken a prefix of the text.
 pub fn write_scan<K: Sink>(
     shape: Shape,
     tdi: &Row,

@@ -32,18 +32,19 @@ pub fn code_scans()
     ensures any_length { LongCodeTransport }
 {}
 
-/// The SVF text of scans means the clocks of the head, of the scans and of the tail. These clocks
-/// compare exactly the bits that the scans compare (SVF Revision E). Each scan must have at least
-/// one and fewer than `2 ^ 64` bits.
+/// The SVF text of scans means the clocks of the head (up to STATE IDLE), of the scans and of the
+/// tail (STATE RESET). These clocks compare exactly the bits that the scans compare (SVF Revision
+/// E). Each scan must have at least one and fewer than `2 ^ 64` bits.
 pub fn texts_mean()
     ensures { (scans : List Scan) → AllSized scans
         → meaning (svf_text scans) ≡ Some (test_clocks scans) }
 {}
 
-/// The chain test passes on every chain of parts with these instruction lengths. It fails on every
-/// chain that has another number of parts, at least one, each with two or more instruction bits,
-/// and no more instruction bits in total. There must be at least one length, each length must be at
-/// least 2, and their sum must be at most `most_bits`.
+/// The chain test for some instruction lengths passes on every chain of parts with these lengths. It
+/// fails on every chain with these four properties: it has at least one part; each part has two or
+/// more instruction bits; the number of parts is different; and the total number of instruction bits
+/// is no larger. There must be at least one length, each length must be at least 2, and their sum
+/// must be at most `most_bits`.
 pub fn chain_tests()
     ensures { (lengths : List ℕ) → AreIrLengths lengths → sum lengths ≤ most_bits
         → IsChainTest lengths (chain_text lengths) }

@@ -1,4 +1,4 @@
-// The kind of a scan, and its rows.
+// The kind of a scan, and its rows of TDI, TDO and MASK bits.
 ghost use Rattle.std.specs.Prelude.{◌≡◌};
 ghost use Rattle.tap_defs.specs.chain.ScanRows.{AreSameRows, HaveRoomFor};
 

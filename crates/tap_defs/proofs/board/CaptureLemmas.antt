@@ -73,7 +73,7 @@ pub row_shown : (board : RawBoard) (t : RowScan) (chain : List ChainPart) → Is
     InTest board (shifted_row board t) chain → pin_states chain ≡ row_states board t.now
 row_shown board t chain start h = parts_show board t 0 board.chain chain h.logics_are start.states_are h.currents h.stays
 
--- `scans` are data scans that shift in these rows; they may compare anything
+-- the second list consists of data scans that shift in the rows of the first list; they may compare anything
 abbrev pub ShiftRows : RawBoard → List RowScan → List Scan → Type 0
 ShiftRows board [] [] = Unit {0}
 ShiftRows board [] (s ∷ scans) = ⊥

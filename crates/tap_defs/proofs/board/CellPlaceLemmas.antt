@@ -1,5 +1,5 @@
--- The position of each cell in a data scan. Two rows of bits agree wherever a scan compares if and only if they agree
--- at each compared cell.
+-- The position of each cell in a data scan. Two lists of captured bits agree wherever the scan compares a bit if and
+-- only if they agree at each compared cell.
 use Rattle.std.proofs.Common.{◌≡◌, ℕ, zero, suc, ◌+◌, ◌<◌, ◌≤◌, ◌-◌, Bool, true, false, cond, List, [], ◌∷◌, length, drop, Option, Some, None, refl, sym, ◌∙◌, ap, subst, arith, length-append, ltb-true, ltb-false}
 use Rattle.std.specs.Prelude.{slice_get, nat_lt, option_map, option_and_then, unwrap_or}
 use Rattle.std.specs.List.{sum_by}

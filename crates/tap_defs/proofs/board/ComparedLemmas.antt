@@ -1,4 +1,4 @@
--- The scans of a test that compare some bit are those of the rows of the passes that observe a net.
+-- A data scan of a test compares some bit if and only if it compares a row of a pass that observes a net.
 use Rattle.std.proofs.Common.{◌≡◌, inl, inr, ℕ, zero, suc, ◌+◌, ◌*◌, ◌<◌, Bool, true, false, cond, ◌||◌, ◌==◌, List, [], ◌∷◌, ◌++◌, length, filter, drop, take, Option, Some, None, refl, sym, ◌∙◌, ap, subst, arith, length-append}
 use Rattle.std.specs.Prelude.{is_some, slice_get, count_by}
 use Rattle.std.specs.List.{list_any, flat_map}

@@ -1,4 +1,4 @@
--- Proof that some scan of a test is wrong under every nonempty observable fault set.
+-- Proof that some scan of a test is wrong (`IsWrong`) under every nonempty observable fault set.
 use Rattle.std.proofs.Common.{◌≡◌, ◌≢◌, ℕ, zero, suc, ◌+◌, ◌<◌, ◌==◌, Bool, true, false, not, ◌⊎◌, inl, inr, List, [], ◌∷◌, ◌++◌, Option, Some, None, refl, sym, ◌∙◌, ap, subst, arith}
 use Rattle.std.specs.Prelude.{slice_get, unwrap_or}
 use Rattle.board_defs.specs.declared.board.PinAt.{PinAt}

@@ -95,7 +95,7 @@ silent_same (b ∷ bits) e = by_expect (silent_same bits) b.expect refl e
     by_expect ih (Some v) q h = cc h
 
 -- If a log is the expected one, its rows have the expected bits wherever the statements compare. So the rows may
--- replace them.
+-- replace the expected bits.
 module _ (board : RawBoard) where
   abbrev statement : RowScan → Scan
   statement t = scan_of_row board t

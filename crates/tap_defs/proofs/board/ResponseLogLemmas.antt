@@ -1,5 +1,5 @@
--- Faults explain a log if and only if it has the shape of the test and its rows have the compared bits that the cells
--- capture. The cells capture while the row of the previous scan is in the latches.
+-- Faults explain a log if and only if the log has the shape of the test and each compared bit in it is the bit that the
+-- cell captures. The cells capture while the row of the previous scan is in the latches.
 use Rattle.std.proofs.Common.{◌≡◌, ◌↔◌, ℕ, zero, suc, Bool, true, false, cond, ◌⊎◌, inl, inr, List, [], ◌∷◌, ◌++◌, length, map, filter, Option, Some, None, refl, sym, ◌∙◌, ap, subst, arith}
 use Rattle.std.specs.Prelude.{slice_get, is_some, option_map, unwrap_or, count_by}
 use Rattle.std.specs.List.{AllByRecursion}
@@ -87,7 +87,7 @@ module _ (board : RawBoard) (faults : FaultSet) where
   abbrev Captures : RowScan → List Bool → Type 0
   Captures t row = (choice : Choice) → AgreeWhereCompared (joined (row_bits board t)) row (row_captured board faults t.before choice)
 
-  -- for every choice of the free bits, each row of the log has the compared bits that the board captures for the row's scan
+  -- for every choice of the free bits, each row of the log agrees with the captured bits wherever the row's scan compares a bit
   abbrev Captured : List RowScan → List (List Bool) → Type 0
   Captured [] log = Unit {0}
   Captured (t ∷ ts) [] = Unit {0}

@@ -1,4 +1,4 @@
--- Proof that a test fails if one of its scans is wrong.
+-- Proof that a test fails if one of its scans is wrong (`IsWrong`).
 use Rattle.std.proofs.Common.{◌≡◌, ℕ, suc, ◌<◌, Bool, false, inl, inr, List, [], ◌∷◌, length, map, Option, Some, refl, sym, ◌∙◌, ap}
 use Rattle.std.specs.Prelude.{slice_get}
 use Rattle.board_defs.specs.declared.device.RawDevice.{RawDevice}

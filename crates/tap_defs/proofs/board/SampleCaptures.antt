@@ -333,7 +333,7 @@ reads_stuck : captures_by meeting (stuck 0 off no_faults) first_on 2 ≡ (off �
 reads_stuck = refl
 
 -- A CLOCK cell reads like an INPUT cell. An OBSERVE_ONLY cell, an INPUT cell at an output, and an INPUT cell whose pin is on no net
--- capture free bits. The nets carry 1.
+-- capture free bits in the model. (A real OBSERVE_ONLY cell reads its net, but no test compares it.) The nets carry 1.
 abbrev readers : RawDevice
 readers = device
     (port_bit 4 None Inward (codes "1") false ∷ port_bit 5 None Inward (codes "2") false

@@ -1,4 +1,4 @@
--- Samples of the cells that must keep their safe values, and of wrong tests: each breaks a condition of `IsQuiet`.
+-- Samples of the cells that must keep their safe values, and of wrong tests, each of which breaks a condition of `IsQuiet`.
 use Rattle.std.proofs.Common.{◌≡◌, ℕ, zero, suc, ◌==◌, Bool, true, false, not, List, [], ◌∷◌, ◌++◌, map, take, drop, Option, Some, None, refl, inl, inr, arith}
 use Rattle.std.specs.Prelude.{codes, cond}
 use Rattle.std.specs.List.{list_any, enumerate_from}

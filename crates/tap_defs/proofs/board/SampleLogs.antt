@@ -63,7 +63,7 @@ captures board log single bit =
     let scans : List RowScan = svf_row_scans board in
     captures_pass board (set_of single) (free bit) quiet_row scans (scans_by_log (map (scan_of_row board) scans) log)
 
--- the single faults that explain a log, in the order of `singles`, found by running the captures
+-- the single faults that explain a log, in the order of `singles`, computed from the bits that the cells capture
 abbrev explaining : RawBoard → List (List Bool) → List Single
 explaining board log = filter (λ single. captures board log single off && captures board log single on) (singles board)
 

@@ -80,7 +80,7 @@ update_ir : after plain on true off (record (part Exit1IR Sample) { ir = off ∷
     ≡ record (part UpdateIR Extest) { ir = off ∷ off ∷ [] }
 update_ir = refl
 
--- Capture-IR loads 1 nearest TDO, 0 next to it, and free bits above. Shift-IR shifts, and TDO is the bit nearest TDO.
+-- Capture-IR loads 1 nearest TDO, 0 next to it, and free bits above. Shift-IR shifts, and outputs the first bit.
 abbrev four_bits : TapState → PartState
 four_bits tap = record (part tap Sample) { ir = off ∷ on ∷ off ∷ on ∷ [] }
 

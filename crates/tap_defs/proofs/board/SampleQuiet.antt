@@ -1,4 +1,4 @@
--- Tests of a net with two drivers that are not quiet (`IsQuiet`).
+-- Tests that are not quiet (`IsQuiet`), on a board that has a net with two drivers.
 use Rattle.std.proofs.Common.{◌≡◌, ℕ, zero, suc, Bool, true, false, List, [], ◌∷◌, ◌++◌, take, drop, Some, refl, inl, inr, subst, arith}
 use Rattle.std.specs.Prelude.{slice_get}
 use Rattle.board_defs.specs.declared.board.PartKind.TheVariants.{Described}

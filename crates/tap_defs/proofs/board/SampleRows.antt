@@ -120,7 +120,7 @@ dark_driver : rows_of (c 1 1 ∷ []) 6 drv ≡ (off ∷ off ∷ []) ∷ (off ∷
 dark_driver = refl
 
 -- The bits that the cells of part `part` are expected to capture in a row. The INPUT, CLOCK and BIDIR cells on an
--- observed net have one, except at the pin of the enabled driver.
+-- observed net have an expected bit, except at the pin of the enabled driver.
 abbrev expected : TestRow → ℕ → RawDevice → List (Option Bool)
 expected r part d = map (expect_bit mixed r part d) (range_with_len 0 d.boundary)
 

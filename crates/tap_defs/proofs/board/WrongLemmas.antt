@@ -1,4 +1,4 @@
--- Conditions under which a scan is wrong.
+-- Conditions under which a scan is wrong (`IsWrong`), that is, finds a wrong bit in every run.
 use Rattle.std.proofs.Common.{◌≡◌, ℕ, zero, suc, ◌+◌, ◌<◌, ◌==◌, Bool, true, false, cond, not, ◌&&◌, List, [], ◌∷◌, Option, Some, None, refl, sym, ◌∙◌, ap, arith, zero-add}
 use Rattle.std.specs.Prelude.{slice_get, unwrap_or, option_map}
 use Rattle.lists.proofs.Booleans.{not_itself}

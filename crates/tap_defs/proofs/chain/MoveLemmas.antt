@@ -28,7 +28,7 @@ at_tap P t s e p = subst (λ (u : TapState). P (with_tap u s)) (sym e) p
 abbrev pub moved_to : TapState → ChainPart → ChainPart
 moved_to t p = record p { state = with_tap t p.state }
 
--- true if the action of the old state changes no register
+-- true if the action of the old state never changes a register
 abbrev pub rests : TapState → Bool
 rests CaptureDR = false
 rests ShiftDR = false
@@ -36,7 +36,7 @@ rests CaptureIR = false
 rests ShiftIR = false
 rests _ = true
 
--- true if the action of the new state changes the instruction or the latches
+-- true if the action of the new state may change the instruction or the latches
 abbrev pub changes : TapState → Bool
 changes TestLogicReset = true
 changes UpdateDR = true

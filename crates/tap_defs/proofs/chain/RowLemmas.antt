@@ -1,4 +1,4 @@
--- The rows of a scan, and the scan that is made from rows.
+-- The TDI, TDO and MASK rows of a scan, and the scan that is made from such rows.
 use Rattle.std.proofs.Common.{◌≡◌, ℕ, zero, suc, Bool, true, false, cond, List, [], ◌∷◌, length, map, get_or, replicate, Option, Some, None, is_some, unwrap_or, refl, arith}
 use Rattle.tap_defs.specs.chain.TestLogic.{all_ones}
 use Rattle.tap_defs.specs.chain.Scan.{ScanBit, tdi_bits, tdo_bits, mask_bits, scan_bits}

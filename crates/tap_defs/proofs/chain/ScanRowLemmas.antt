@@ -1,4 +1,4 @@
--- Facts about rows that have the bits of a scan.
+-- Facts about TDI, TDO and MASK rows that have the bits of a scan.
 use Rattle.std.proofs.Common.{◌≡◌, ℕ, ◌≤◌, Bool, true, false, List, length, get_or, is_some, unwrap_or, sym, ap, ◌∙◌, arith}
 use Rattle.std.proofs.lemmas.List.{length-map}
 use Rattle.tap_defs.specs.declared.scan.ScanRows.{ScanRows}

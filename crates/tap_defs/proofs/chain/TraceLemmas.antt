@@ -1,4 +1,5 @@
--- The visible state of a part changes only if its controller enters Update-IR, Update-DR or Test-Logic-Reset.
+-- The visible state of a part, which consists of its instruction and its latches, changes only if its controller enters
+-- Update-IR, Update-DR or Test-Logic-Reset.
 use Rattle.std.proofs.Common.{◌≡◌, Bool, ◌∷◌, List, refl, false, ℕ, true, ◌&&◌, [], suc, ◌++◌, ◌<◌, ◌∙◌, length, arith, not, subst, ap, sym}
 use Rattle.tap_defs.specs.declared.tap.TapState.{TapState}
 use Rattle.tap_defs.specs.declared.tap.TapState.TheVariants.{TestLogicReset, RunTestIdle, CaptureDR, ShiftDR, Exit1DR, UpdateDR, CaptureIR, ShiftIR, Exit1IR, UpdateIR}
@@ -15,7 +16,7 @@ use Rattle.tap_defs.proofs.chain.ListLemmas.{cons_path}
 use Rattle.tap_defs.proofs.chain.HeadLemmas.{part_tap}
 use Rattle.tap_defs.proofs.chain.RunLemmas.{run-append}
 
--- true if the instruction or the latches change when this state is entered
+-- true if the instruction or the latches may change when this state is entered
 abbrev pub changes : TapState → Bool
 changes TestLogicReset = true
 changes UpdateIR = true

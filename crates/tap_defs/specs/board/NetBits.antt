@@ -78,7 +78,7 @@ pub data Feeding : Type 0 where
   Driven : ℕ → Bool → Feeding
   Contended : Feeding
 
--- the driving of a net after one more pin is taken into account; a pin that is not live changes nothing
+-- what drives a net after one more pin is taken into account; a pin that is not live changes nothing
 abbrev pub with_pin : Bool → ℕ → Bool → Feeding → Feeding
 with_pin false place bit feeding = feeding
 with_pin true place bit Undriven = Driven place bit
@@ -86,14 +86,14 @@ with_pin true place bit Unruled = Unruled
 with_pin true place bit (Driven other value) = Contended
 with_pin true place bit Contended = Contended
 
--- the driving of a net by these pins, the first of which has place `place`
+-- what drives a ruled net with these pins, the first of which has place `place`
 abbrev pub feeding_from : RawBoard → List PinState → ℕ → List NetPin → Feeding
 feeding_from board states place [] = Undriven
 feeding_from board states place (pin ∷ pins) =
     with_pin (live board states pin) place (driver_bit board states pin.at)
     (feeding_from board states (suc place) pins)
 
--- the driving of the net
+-- what drives the net
 abbrev pub feeding : RawBoard → List PinState → Net → Feeding
 feeding board states net = cond (ruled board states net) (feeding_from board states 0 net.pins) Unruled
 
@@ -260,7 +260,9 @@ read_bit board faults states shorts free part (Some b) =
     let at : PinAt = record { part = part; bit = b } in
     cond (reads_pin board states at) (read_at board faults states shorts free (place_of at 0 board.nets)) free
 
--- The bit that a cell with this reading entry captures. An INPUT, CLOCK or BIDIR entry reads its pin. Any other cell captures a free bit.
+-- The bit that a cell with this reading entry captures. An INPUT, CLOCK or BIDIR entry reads its pin. In the
+-- model, any other cell captures a free bit. This includes an OBSERVE_ONLY cell, which reads its net in a real part, but which no test
+-- compares.
 abbrev pub read_entry : RawBoard → FaultSet → List PinState → (ℕ → Bool) → Bool → ℕ → Option Cell → Bool
 read_entry board faults states shorts free part None = free
 read_entry board faults states shorts free part (Some cell) =

@@ -16,7 +16,8 @@ use Rattle.tap_defs.specs.board.OnBoard.{board_wiring}
 use Rattle.tap_defs.specs.board.TestRows.{TestRow, row_bit}
 use Rattle.tap_defs.specs.board.BoardScans.{RowScan}
 
--- The visible state of a part while the row is in the latches. A described part has EXTEST, and any other part has BYPASS.
+-- The visible state of a part, that is, its instruction and its latches, while the row is in the latches. A described part has EXTEST, and
+-- any other part has BYPASS.
 abbrev pub shown_by_part : RawBoard → TestRow → ℕ → PartKind → PinState
 shown_by_part board row part (Described device) =
     record {
@@ -51,8 +52,9 @@ registers pins (p ∷ parts) = register_of p.kind (pins 0) ∷ registers (λ k. 
 abbrev pub row_captured : RawBoard → FaultSet → TestRow → Choice → List Bool
 row_captured board faults row choice = joined (registers (board_wiring board faults (row_states board row) choice) board.chain)
 
--- Each of `scans` passes with the bits that the cells capture, whatever the free bits are. The cells capture while the
--- row of the previous scan is in the latches, which is `row` for the first scan.
+-- Each scan of the second list passes with the bits that the cells capture, whatever the free bits are. The cells
+-- capture while the row of the previous scan is in the latches. For the first scan, this is `row`. The first list gives
+-- the rows that the scans shift in.
 abbrev pub CapturesPass : RawBoard → FaultSet → TestRow → List RowScan → List Scan → Type 0
 CapturesPass board faults row [] scans = Unit {0}
 CapturesPass board faults row (t ∷ ts) [] = Unit {0}

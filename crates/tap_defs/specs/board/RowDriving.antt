@@ -21,7 +21,7 @@ abbrev pub is_switched_off : Bool → Cell → Option Control → Bool
 is_switched_off bit cell None = false
 is_switched_off bit cell (Some control) = (control.cell == cell.num) && is_same bit control.disable
 
--- The driving of a net by the enabled driver with this entry. A driver that its own cell controls drives nothing if the
+-- How the enabled driver with this entry drives its net. A driver that its own cell controls drives nothing if the
 -- cell has the disable value.
 abbrev pub entry_feeds : RawBoard → TestRow → PinAt → ℕ → Option Cell → Feeding
 entry_feeds board row at place None = Undriven
@@ -29,17 +29,17 @@ entry_feeds board row at place (Some cell) =
     let bit : Bool = cell_bit board row at.part (device_at board at.part) cell.num in
     cond (is_switched_off bit cell cell.ctl) Undriven (Driven place bit)
 
--- the driving of a net by the enabled driver at this port bit
+-- how the enabled driver at this port bit drives its net
 abbrev pub at_feeds : RawBoard → TestRow → ℕ → Option PinAt → Feeding
 at_feeds board row place None = Undriven
 at_feeds board row place (Some at) = entry_feeds board row at place (entry_at board at)
 
--- the driving of a net by this pin, which is the enabled driver
+-- how this pin, which is the enabled driver, drives its net
 abbrev pub pin_feeds : RawBoard → TestRow → ℕ → Option NetPin → Feeding
 pin_feeds board row place None = Undriven
 pin_feeds board row place (Some pin) = at_feeds board row place pin.at
 
--- the driving of the net by the enabled driver at this place, if there is one
+-- how the enabled driver at this place drives the net, if there is one
 abbrev pub driver_feeds : RawBoard → TestRow → Net → Option ℕ → Feeding
 driver_feeds board row net None = Undriven
 driver_feeds board row net (Some place) = pin_feeds board row place (slice_get net.pins place)

@@ -13,8 +13,8 @@ use Rattle.board_defs.specs.Settings.{Enabling, holds, enables}
 use Rattle.tap_defs.specs.board.NetBits.{Place, place_of}
 use Rattle.tap_defs.specs.board.Quiet.{controls_driver, safe_bit}
 
--- The place of the first enabled driver among these pins, the first of which has place `place`. In a safe setting, a
--- net has at most one enabled driver.
+-- The place of the first enabled driver among these pins, the first of which has place `place`. In a safe setting, at
+-- most one driver of the net is enabled. Otherwise only the first enabled driver counts.
 abbrev pub first_enabled : RawBoard → Enabling → ℕ → List NetPin → Option ℕ
 first_enabled board setting place [] = None
 first_enabled board setting place (pin ∷ pins) =
@@ -78,7 +78,7 @@ pub record TestRow : Type 0 where
   pub setting : Enabling
   pub carried : ℕ → Option Bool
 
--- the quiet row, in which no control is enabled and no net carries a bit
+-- the quiet row, whose setting contains no control and in which no net carries a bit
 abbrev pub quiet_row : TestRow
 quiet_row = record { setting = λ c. false; carried = λ n. None }
 
@@ -100,7 +100,7 @@ abbrev pub only_if : Bool → Option Bool → Option Bool
 only_if true bit = bit
 only_if false bit = None
 
--- the bit of the net if the driver that observes the net is at this place, otherwise None
+-- the bit of the net if the driver by which the setting observes the net is at this place, otherwise None
 abbrev pub data_observed : Option Bool → ℕ → Option ℕ → Option Bool
 data_observed bit place None = None
 data_observed bit place (Some driver) = only_if (driver == place) bit
@@ -127,7 +127,7 @@ data_bit board row part device cell = option_and_then (λ e. data_pin board row 
 abbrev pub row_bit : RawBoard → TestRow → ℕ → RawDevice → ℕ → Bool
 row_bit board row part device cell = unwrap_or (data_bit board row part device cell) (steady_bit board row.setting part device cell)
 
--- the bit of the net if the driver that observes the net is at another place, otherwise None
+-- the bit of the net if the driver by which the setting observes the net is at another place, otherwise None
 abbrev pub expect_observed : Option Bool → ℕ → Option ℕ → Option Bool
 expect_observed bit place None = None
 expect_observed bit place (Some driver) = only_if (not (driver == place)) bit

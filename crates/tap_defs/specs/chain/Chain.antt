@@ -9,7 +9,7 @@ pub record ChainPart : Type 0 where
   pub logic : TestLogic
   pub state : PartState
 
--- the visible state of each part: the part of its state that its pins depend on
+-- the visible state of each part: the instruction and the latches, on which the pins depend
 abbrev pub pin_states : List ChainPart → List PinState
 pin_states parts = map (λ p. pin_state p.state) parts
 
@@ -29,7 +29,7 @@ chain_tdo (p ∷ parts) free tdi = chain_tdo parts (λ k. free (suc k)) (part_td
 abbrev pub logics : List ChainPart → List TestLogic
 logics parts = map (λ p. p.logic) parts
 
--- each state has registers of the lengths that the part's test logic gives
+-- in each state, the registers and the list of the latches have the lengths that the part's test logic gives
 abbrev pub AllAreStates : List ChainPart → Type 0
 AllAreStates [] = Unit {0}
 AllAreStates (p ∷ parts) = IsStateOf p.logic p.state × AllAreStates parts

@@ -15,8 +15,9 @@ pub record AreIrLengths (lengths : List ℕ) : Type 0 where
   pub wide : All (λ n. 2 ≤ n) lengths
 
 -- The text has a meaning. It passes on every chain of parts with these instruction lengths, described or not. It fails
--- on every chain that has another number of parts, at least one, each with two or more instruction bits, and no more
--- instruction bits in total. Both are true whatever the pins capture.
+-- on every chain with these four properties: it has at least one part; each part has two or more instruction bits; the
+-- number of parts is different; and the total number of instruction bits is no larger. Both are true whatever the pins
+-- capture.
 pub record IsChainTest (lengths : List ℕ) (text : List ℕ) : Type 0 where
   pub clocks : List Clock
   pub means : meaning text ≡ Some clocks

@@ -26,7 +26,7 @@ sdr_clocks bits = plain true ∷ plain false ∷ plain false ∷ (shift_clocks b
 abbrev pub sir_clocks : List ScanBit → List Clock
 sir_clocks bits = plain true ∷ plain true ∷ plain false ∷ plain false ∷ (shift_clocks bits ++ plain true ∷ plain false ∷ [])
 
--- the clocks of an SIR or an SDR statement with these bits
+-- the clocks of an SIR statement (`true`) or an SDR statement (`false`) with these bits
 abbrev pub clocks_by : Bool → List ScanBit → List Clock
 clocks_by true bits = sir_clocks bits
 clocks_by false bits = sdr_clocks bits

@@ -7,7 +7,8 @@ use Rattle.tap_defs.specs.chain.Scan.{ScanBit, Scan, joined}
 abbrev pub sent : Bool → ScanBit
 sent bit = record { tdi = bit; expect = None }
 
--- the scan bits of one part's code, the first of which is nearest TDO
+-- The scan bits of one part's code, the first of which is nearest TDO. If the code has two or more bits, the first two
+-- scan bits expect 1 and then 0 at TDO.
 abbrev pub code_bits : List Bool → List ScanBit
 code_bits [] = []
 code_bits (a ∷ []) = sent a ∷ []

@@ -31,10 +31,9 @@ pub record FreeBits : Type 0 where
   pub ir : ℕ → Bool
   pub cells : ℕ → Bool
   pub latches : ℕ → Bool
-  -- TDO outside the shift states
+  -- TDO outside the shift states, and in Shift-DR under Other
   pub tdo : Bool
-  -- Used only for a part whose instruction in Test-Logic-Reset is not known: true if that instruction is another one
-  -- than BYPASS.
+  -- true if the instruction in Test-Logic-Reset is not BYPASS; used only for a part in which that instruction is not known
   pub other : Bool
 
 -- The part after the old state has acted. Under EXTEST, Capture-DR loads the bits that the pins give the boundary

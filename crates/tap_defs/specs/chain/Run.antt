@@ -22,8 +22,8 @@ pub record Choice : Type 0 where
 abbrev pub Choices : Type 0
 Choices = ℕ → Choice
 
--- The board around a chain. It gives the bits of the boundary cells of part `k`, from the visible states of all parts
--- and the choice of the cycle.
+-- The board around a chain. It gives the bits that the boundary cells of part `k` capture under Extest. These bits may
+-- depend on the visible states of all parts and on the choice of the cycle.
 abbrev pub Wiring : Type 0
 Wiring = List PinState → Choice → ℕ → List Bool
 

@@ -16,7 +16,7 @@ pub record Scan : Type 0 where
 abbrev pub tdi_bits : List ScanBit → List Bool
 tdi_bits bits = map (λ b. b.tdi) bits
 
--- the row of the expected bits at TDO; a bit that is not compared is 0
+-- the expected bits at TDO, with 0 for each bit that is not compared
 abbrev pub tdo_bits : List ScanBit → List Bool
 tdo_bits bits = map (λ b. unwrap_or b.expect false) bits
 
@@ -27,7 +27,7 @@ mask_bits bits = map (λ b. is_some b.expect) bits
 abbrev pub compares : List ScanBit → Bool
 compares bits = list_any (λ b. is_some b.expect) bits
 
--- The bits of a scan with these rows of TDI, TDO and MASK. A 1 in MASK means that the bit is compared.
+-- The bits of a scan with these bits in TDI, TDO and MASK. A 1 in MASK means that the bit at TDO is compared.
 abbrev pub scan_bits : List Bool → List Bool → List Bool → List ScanBit
 scan_bits (i ∷ is) (o ∷ os) (m ∷ ms) = record { tdi = i; expect = cond m (Some o) None } ∷ scan_bits is os ms
 scan_bits _ _ _ = []

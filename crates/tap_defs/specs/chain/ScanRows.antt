@@ -1,11 +1,12 @@
--- Conditions on the rows TDI, TDO and MASK of a scan: which bits they have, which room they have, and whether a call
--- leaves the same three rows borrowed with the same room.
+-- Conditions on the TDI, TDO and MASK rows of a scan: which bits they have, which room they have, and whether a call
+-- leaves the same three rows borrowed with the same room. A row (`bt_bits::Row`) is a list of bits in memory, and its
+-- room is the largest number of bits that fit into this memory.
 use Rattle.std.specs.Prelude.{◌≡◌, ℕ, ◌≤◌, Bool, List, length}
 use Rattle.tap_defs.specs.declared.scan.ScanRows.{ScanRows}
 use Rattle.tap_defs.specs.declared.scan.StoredRows.{StoredRows}
 use Rattle.tap_defs.specs.chain.Scan.{ScanBit, tdi_bits, tdo_bits, mask_bits}
 
--- the three lists are the rows of a scan: the bits to shift in, the expected bits, and the mask of the compared bits
+-- the three lists are those of a scan: the bits to shift in, the expected bits, and the mask of the compared bits
 pub record AreBitsOf (bits : List ScanBit) (shifted expected marks : List Bool) : Type 0 where
   pub tdi : shifted ≡ tdi_bits bits
   pub tdo : expected ≡ tdo_bits bits

@@ -18,7 +18,7 @@ abbrev pub may_scan : Standing → Bool → Bool
 may_scan standing true = standing.idle && standing.ends_ir
 may_scan standing false = standing.idle && standing.ends_dr
 
--- these clocks, followed by the clocks of the rest if the rest has a meaning
+-- these clocks followed by the clocks of the rest, or None if the rest has no meaning
 abbrev pub followed_by : List Clock → Option (List Clock) → Option (List Clock)
 followed_by clocks more = option_map (λ cs. clocks ++ cs) more
 

@@ -24,8 +24,8 @@ pub record Field : Type 0 where
   pub name : List ℕ
   pub digits : List ℕ
 
--- The fields in these tokens. The first argument is the part of a field that has been read. Blanks may separate the
--- digits of a field, so the digits may be several words.
+-- The fields in these tokens, or None if the tokens do not form fields. The first argument is the part of a field that
+-- has been read. Blanks may separate the digits of a field, so the digits may be several words.
 abbrev pub fields_from : Option Field → List Token → Option (List Field)
 fields_from None [] = Some []
 fields_from None (Word name ∷ Open ∷ tokens) = fields_from (Some (record { name = name; digits = [] })) tokens
@@ -43,7 +43,7 @@ abbrev pub bits_of_three : Option (List Bool) → Option (List Bool) → Option 
 bits_of_three (Some tdi) (Some tdo) (Some mask) = Some (scan_bits tdi tdo mask)
 bits_of_three _ _ _ = None
 
--- the bits of a scan of `n` bits, whose fields are TDI alone, or TDI, TDO and MASK
+-- the bits of a scan of `n` bits, whose fields are TDI alone, or TDI, TDO and MASK; None for other fields
 abbrev pub bits_of_fields : ℕ → List Field → Option (List ScanBit)
 bits_of_fields n (tdi ∷ []) = option_map (map sent) (field_bits_of (codes "TDI") n tdi)
 bits_of_fields n (tdi ∷ tdo ∷ mask ∷ []) =
@@ -60,7 +60,7 @@ scan_command word =
     if bytes_eq word (command_word true) then Some true else (
     if bytes_eq word (command_word false) then Some false else None)
 
--- the scan of this kind with these bits
+-- the statement of a scan of this kind with these bits, or None if the kind or the bits have no value
 abbrev pub scan_by : Option Bool → Option (List ScanBit) → Option Statement
 scan_by (Some ir) (Some bits) = Some (ScanOf (record { ir = ir; bits = bits }))
 scan_by _ _ = None

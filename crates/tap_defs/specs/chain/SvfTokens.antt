@@ -39,8 +39,8 @@ tokens_from word (b ∷ bytes) =
     then ended word (Close ∷ tokens_from [] bytes)
     else (if b == 59 then ended word (End ∷ tokens_from [] bytes) else tokens_from (word ++ b ∷ []) bytes)))
 
--- The tokens before each semicolon, or None if the last statement has no semicolon. The first argument is the part of a
--- statement that has been read.
+-- The tokens of each statement without its semicolon, or None if the last statement has no semicolon. The first argument
+-- is the part of a statement that has been read.
 abbrev pub pieces_from : List Token → List Token → Option (List (List Token))
 pieces_from piece (End ∷ tokens) = option_map (λ pieces. piece ∷ pieces) (pieces_from [] tokens)
 pieces_from piece (Word w ∷ tokens) = pieces_from (piece ++ Word w ∷ []) tokens

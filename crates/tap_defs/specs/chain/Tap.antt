@@ -1,4 +1,4 @@
--- The TAP controller: the state after a clock with this TMS (IEEE 1149.1-1990, section 5, the state diagram).
+-- The TAP controller: the state that follows each state for each value of TMS (IEEE 1149.1-1990, section 5, the state diagram).
 use Rattle.std.specs.Prelude.{Bool, cond}
 use Rattle.tap_defs.specs.declared.tap.TapState.{TapState}
 use Rattle.tap_defs.specs.declared.tap.TapState.TheVariants.{TestLogicReset, RunTestIdle, SelectDR, CaptureDR, ShiftDR, Exit1DR, PauseDR, Exit2DR}

@@ -54,6 +54,7 @@ scan_texts (s ∷ scans) = scan_text s ++ scan_texts scans
 abbrev pub line : List ℕ → List ℕ
 line words = words ++ 10 ∷ []
 
+-- the head: the statements before the scans
 abbrev pub head_text : List ℕ
 head_text =
     line (codes "TRST OFF;")
@@ -61,6 +62,7 @@ head_text =
     ++ (line (codes "ENDDR IDLE;")
     ++ (line (codes "STATE RESET;") ++ line (codes "STATE IDLE;"))))
 
+-- the tail: the statement after the scans
 abbrev pub tail_text : List ℕ
 tail_text = line (codes "STATE RESET;")
 

@@ -27,7 +27,7 @@ data_frame p = record { logic = p.logic; current = p.state.current; ir = p.state
 -- The effect of a data scan that captures the bits `captured`. Its shift clocks output `leaving` at TDO, and its other
 -- clocks compare nothing. Afterwards the chain holds `staying`, and each part holds as many bits as it captured. The
 -- test logic, the current instruction and the instruction register of each part do not change, and the controllers are
--- in Run-Test/Idle again.
+-- in Run-Test/Idle again. `tdo` has the bit at TDO in each clock.
 pub record ScansData (bits : List ScanBit) (captured : List (List Bool))
     (leaving staying tdo : List Bool) (before after : List ChainPart) : Type 0 where
   pub leaves : take (length bits) (drop 3 tdo) ≡ leaving
@@ -57,7 +57,8 @@ code_frame p = record {
 
 -- The effect of an instruction scan. Its shift clocks output `leaving` at TDO, and its other clocks compare nothing.
 -- Afterwards the instruction registers hold `staying`, and each part has the instruction of the code in its register.
--- No other register, no latch and no length changes, and the controllers are in Run-Test/Idle again.
+-- No other register, no latch and no length changes, and the controllers are in Run-Test/Idle again. `tdo` has the bit
+-- at TDO in each clock.
 pub record ScansCodes (bits : List ScanBit) (leaving staying tdo : List Bool) (before after : List ChainPart) : Type 0 where
   pub leaves : take (length bits) (drop 4 tdo) ≡ leaving
   pub compares : run_passes (sir_clocks bits) tdo ≡ scan_passes bits leaving
@@ -67,8 +68,8 @@ pub record ScansCodes (bits : List ScanBit) (leaving staying tdo : List Bool) (b
   pub frames : map code_frame after ≡ map code_frame before
   pub idle : AllIn RunTestIdle after
 
--- A data scan from Run-Test/Idle that has some bits and is exactly as long as the selected registers together. Each
--- instruction selects a register of the model. All captured bits come out, and the chain then holds the bits that were
+-- A data scan from Run-Test/Idle that has some bits and is exactly as long as the selected registers together. The
+-- instruction of each part selects a register of the model. All captured bits come out, and the chain then holds the bits that were
 -- shifted in.
 abbrev pub DataTransport : Type 0
 DataTransport =
@@ -80,8 +81,8 @@ DataTransport =
     (tdos wiring (sdr_clocks bits) choices parts) parts
     (run wiring (sdr_clocks bits) choices parts)
 
--- A data scan from Run-Test/Idle of any length `n` except 0. Each instruction selects a register of the model. Let
--- `stream` be the captured bits followed by the bits that are shifted in. Its first `n` bits come out, and the chain
+-- A data scan from Run-Test/Idle of any length `n` except 0. The instruction of each part selects a register of the
+-- model. Let `stream` be the captured bits followed by the bits that are shifted in. Its first `n` bits come out, and the chain
 -- then holds the others.
 abbrev pub LongDataTransport : Type 0
 LongDataTransport =

@@ -3,7 +3,8 @@ use Rattle.std.specs.Vec.Iter.{into_iter_items, into_iter_len}
 use Rattle.side_by_side.specs.Pieces.{then_later, together}
 use Rattle.side_by_side.proofs.pieces.together.Given as goal
 
--- The lists joined so far, followed by the joined lists of the answers that are left, are the whole result.
+-- If the remaining answers are lists, the list joined so far, followed by these lists, is the joined list of all answers.
+-- Otherwise the first fault of the remaining answers is the first fault of all answers.
 abbrev pub invariant-loop-answer : goal.invariant-loop-answer
 invariant-loop-answer g l = record {
   said : together (λ v. v.items) (into_iter_items l.initial.answer-iterator)
