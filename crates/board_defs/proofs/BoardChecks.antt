@@ -77,7 +77,7 @@ pins_of b h m n i j first second p q s t same_part same_pin = by_order (cases_or
         (later_by nets_apart b.nets parts.1 n m second first less t.on_board s.on_board)
         t.in_net s.in_net) (same_name_of q p (sym same_part) (sym same_pin)))
 
--- the port bit exists, and its pin is `pin`
+-- the port bit exists, and its pin has the name of `pin`
 abbrev placed_bit : NetPin → Option PortBit → Bool
 placed_bit pin None = false
 placed_bit pin (Some bit) = same_pin bit.pin (Some pin.pin)

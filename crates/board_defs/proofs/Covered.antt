@@ -90,8 +90,8 @@ needed_enables board net p s h within = from (view board net p)
     from (by_control b d f) = f s ∙ within b (ap (λ w. needed w b) d ∙ same_refl b)
     from (one_sided at cell control pa x k o w d f) = let wrong : false ≡ true = sym (ap (can_enable board) d) ∙ h in cc wrong
 
--- If a safe setting observes the net by the driver at `place`, the test `is_tested_driver` passes, and the setting has the control that
--- the driver needs.
+-- Suppose that a safe setting observes the net by the driver at `place`. Then the test `is_tested_driver`
+-- passes. The setting also has the control that the driver needs, if the driver needs one.
 pub tested_driver_of : (board : RawBoard) (s : Enabling) (n : ℕ) (net : Net) (place : ℕ)
     → IsBoard board → IsSafe board s → slice_get board.nets n ≡ Some net
     → ObservesBy board s net place →

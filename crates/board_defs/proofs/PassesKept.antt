@@ -102,7 +102,8 @@ observes_shows board n net pass rules safe en (other, eo, (place, o)) =
     has_any (is_enabled pass) (tested_drivers board net) d.0 (has_tested board net place d.0 t d.1)
     (observes_enabled board net place d.0 pass (ap (can_enable board) (sym d.1) ∙ tested_can board net place t) d.1 here)
 
--- Why a pass is needed: it enables a tested driver, or observes two paired nets together, for the first time.
+-- Why a pass is needed: it observes a net by some tested driver, or two paired nets together, for the first
+-- time.
 abbrev Reason : RawBoard → List (List Ctl) → List Ctl → Type 0
 Reason board earlier pass = EnablesNew board earlier pass ⊎ ObservesNew board earlier pass
 

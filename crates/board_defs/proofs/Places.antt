@@ -1,4 +1,4 @@
--- Items of a list, and numbers below a bound, that pass a test, with their places.
+-- Lemmas about tests on the items of a list and on the numbers below a bound. Some of them find an item or a number that passes.
 use Rattle.std.proofs.Common.{◌≡◌, ◌≢◌, ℕ, zero, suc, ◌<◌, ◌==◌, Bool, true, false, not, List, [], ◌∷◌, Some, refl, sym, ◌∙◌, ap, subst, arith, ◌⊎◌, inl, inr, cond}
 use Rattle.std.specs.Prelude.{slice_get, All}
 use Rattle.std.specs.List.{list_any, list_all}

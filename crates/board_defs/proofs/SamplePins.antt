@@ -273,8 +273,9 @@ own_supply = refl
 controlled_pulled : switches kinds (net 0 (Some true) (leg 0 10 ∷ [])) (leg 0 10) ≡ false
 controlled_pulled = refl
 
--- The safe values of a device. Cell 0 has only a reading entry. Cell 1 has a reading entry before the entry for its latch, and cell 2 has
--- one after it. Cell 3 is internal, cell 4 only observes, the safe value of cell 5 is X, and cell 7 has no entry.
+-- The safe values of a device. Cell 0 has only a reading entry. Cell 1 has a reading entry before the entry
+-- for its latch, and cell 2 has one after it. Cell 3 has an INTERNAL entry, and cell 4 has only an
+-- OBSERVE_ONLY entry. The entry for the latch of cells 5 and 6 has the safe value X. Cell 7 has no entry.
 abbrev kept : ℕ → Role → Option ℕ → Symbol → Cell
 kept num role bit safe = record { num = num; role = role; bit = bit; safe = safe; ctl = None }
 

@@ -83,8 +83,9 @@ supply_first = refl
 test_before_dark : reason false (foreign (codes "RAM") ∷ clock 2 ∷ []) ≡ Some TestPort ∷ []
 test_before_dark = refl
 
--- The reason why a net with these pins is not covered, or None if it is covered. The parts of the board have a three-state driver, a
--- bidirectional pin, an always-on driver and a driver that its own cell enables.
+-- The reason why net 0 is not covered if it has the pins `pins`, or None if it is covered. The list has only
+-- this item. The board has five parts: a device with a three-state driver, one with a bidirectional pin, one
+-- with receivers, one with a pin of each kind, and one with a driver that its own cell enables.
 abbrev alone : List NetPin → List (Option Reason)
 alone pins = reasons (board (ts ∷ bi ∷ rcv ∷ mixed ∷ od ∷ []) (net 0 None pins ∷ []))
 
@@ -153,7 +154,8 @@ steady_rules = board_of steady refl
 steady_passes : passes_of steady ≡ [] ∷ []
 steady_passes = refl
 
--- A board with an always-on driver on a dark net. It keeps the rules of boards, and the net is not covered.
+-- A board with an always-on driver on a net that also has a dark pin. It keeps the rules of boards, and the
+-- net is not covered.
 abbrev dark_steady : RawBoard
 dark_steady = board (mixed ∷ rcv ∷ []) (net 0 None (leg 0 9 ∷ pin 1 0 ∷ foreign (codes "RAM") ∷ []) ∷ [])
 
@@ -163,20 +165,23 @@ dark_steady_rules = board_of dark_steady refl
 dark_steady_reasons : reasons dark_steady ≡ Some Dark ∷ []
 dark_steady_reasons = refl
 
--- a device whose port bit has a driving entry but no pin, and therefore no driver
+-- a device with a driving entry whose port bit has no pin, so the device has no driver
 abbrev unpinned : RawDevice
 unpinned =
     device (codes "Q" ∷ []) (port_bit 4 None Outward None false ∷ [])
     (entry 0 Output2 4 (Some (record { cell = 0; disable = true })) ∷ []) 1
 
--- Two one-sided drivers, one of them on a net. No safe setting has the cell of a one-sided driver as a control.
+-- A board with two one-sided drivers. The driver of part 0 is on no net, and that of part 3 is on net 0. No
+-- safe setting has the cell of either driver as a control. The driving entry of part 1 has no pin, so it
+-- makes no setting unsafe.
 abbrev loose : RawBoard
 loose = board (od ∷ unpinned ∷ ts ∷ od ∷ rcv ∷ []) (net 0 None (pin 3 0 ∷ pin 4 0 ∷ []) ∷ [])
 
 loose_safe : map (is_safe_alone loose) (c 0 0 ∷ c 1 0 ∷ c 2 1 ∷ c 3 0 ∷ []) ≡ false ∷ true ∷ true ∷ false ∷ []
 loose_safe = refl
 
--- A board with a bus whose two drivers are not together. Each of them is together with itself and with the driver of the other net.
+-- A board with a bus of two drivers. The controls of these drivers are not together: the setting with both controls is not safe. Each of
+-- the two controls is together with itself and with the control of the driver on the other net.
 abbrev split : RawBoard
 split = board (ts ∷ ts ∷ ts ∷ rcv ∷ []) (net 0 None (pin 0 0 ∷ pin 3 0 ∷ []) ∷ net 1 None (pin 1 0 ∷ pin 2 0 ∷ pin 3 1 ∷ []) ∷ [])
 
@@ -197,7 +202,8 @@ split_rules = board_of split refl
 split_passes : passes_of split ≡ (c 0 1 ∷ c 1 1 ∷ []) ∷ (c 0 1 ∷ c 2 1 ∷ []) ∷ []
 split_passes = refl
 
--- The board of the device `four`, with one more driver on a net of its own. The second walks add this driver's control.
+-- The board of the device `four`, with one more driver on a net of its own. The first walk of the first pass
+-- adds this driver's control, and the second walks of the other two passes add it again.
 abbrev more_fours : RawBoard
 more_fours = board (four ∷ rcv ∷ rcv ∷ rcv ∷ ts ∷ []) (fours.nets ++ net 5 None (pin 4 0 ∷ pin 3 1 ∷ []) ∷ [])
 
@@ -237,7 +243,7 @@ control_inserted = refl
 control_there : inserted (c 1 2) (c 0 9 ∷ c 1 2 ∷ c 1 3 ∷ []) ≡ c 0 9 ∷ c 1 2 ∷ c 1 3 ∷ []
 control_there = refl
 
--- the single faults of two paired nets, in the order of `singles`
+-- A board with two paired nets. The test below lists its single faults, in the order of `singles`.
 abbrev couple : RawBoard
 couple = board (ts ∷ ts ∷ rcv ∷ []) (net 0 None (pin 0 0 ∷ pin 2 0 ∷ []) ∷ net 1 None (pin 1 0 ∷ pin 2 1 ∷ []) ∷ [])
 

@@ -29,7 +29,8 @@ use Rattle.board_defs.specs.Passes.{passes_of}
 use Rattle.board_defs.specs.Faults.{tested_pins, paired_nets, singles}
 use Rattle.board_defs.proofs.BoardChecks.{board_of}
 
--- A port bit of a device. The four port bits of the test access port (`taps`) come before it.
+-- A port bit with this port number, index, mode and pin. No compliance pattern names it. `tap` is true for a
+-- port of the test access port.
 abbrev pub port_bit : ℕ → Option ℕ → Mode → Option (List ℕ) → Bool → PortBit
 port_bit port index mode pin tap = record { port = port; index = index; mode = mode; pin = pin; tap = tap; compliance = false }
 
@@ -207,8 +208,8 @@ buffers_passes = refl
 buffers_bits : data_bits buffers ≡ 10
 buffers_bits = refl
 
--- A net with a driver, a receiver and pin `p`. A foreign pin, of a part outside the chain, makes the net dark. A pin of an inert part
--- does not.
+-- A board with one net, which has a driver, a receiver and pin `p`. If `p` is a pin of a part outside the
+-- chain (`foreign`), it is dark, and the net is not covered. A pin of an inert part is not dark.
 abbrev beside : NetPin → RawBoard
 beside p = board (ts ∷ rcv ∷ []) (net 0 None (pin 0 0 ∷ pin 1 0 ∷ p ∷ []) ∷ [])
 
@@ -221,8 +222,8 @@ dark = refl
 not_dark : reasons (beside (record { part = codes "RAM"; pin = codes "7"; at = None; inert = true })) ≡ None ∷ []
 not_dark = refl
 
--- A net with a driver that its own cell enables. If the net is pulled to the cell's disable value, the driver is a switching driver.
--- Otherwise it is one-sided and blocks its net.
+-- A net with a driver that its own cell enables. If the net is pulled to the cell's disable value, the driver
+-- is a switching driver. Otherwise the driver is one-sided, and the net is blocked.
 abbrev pub pulled : Option Bool → Net
 pulled pull = net 0 pull (pin 0 0 ∷ pin 1 0 ∷ [])
 

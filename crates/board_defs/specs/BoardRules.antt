@@ -48,8 +48,8 @@ abbrev pub IsPlaced : RawBoard → NetPin → Option PinAt → Type 0
 IsPlaced board pin None = All (λ part. part.name ≡ pin.part → described part.kind ≡ None) board.chain
 IsPlaced board pin (Some at) = IsPlacedAt board pin at
 
--- No pin of a part in the chain is inert. Of the pins of one part, all are inert or none is. A pin is inert if its part drives no net and
--- connects no two nets.
+-- No pin of a part in the chain is inert. The pins of one part are either all inert or all not inert. A pin
+-- is inert if its part drives no net and connects no two nets.
 pub record AreInertAlike (board : RawBoard) : Type 0 where
   pub in_chain : All (λ net. All (λ pin. pin.inert ≡ true → All (λ part. part.name ≢ pin.part) board.chain) net.pins) board.nets
   pub agree : (m n i j : ℕ) (first second : Net) (p q : NetPin) → Stands board m first i p

@@ -82,8 +82,8 @@ own_where cell (Some control) = cond (control.cell == cell.num) (Some control) N
 abbrev pub own_control : RawBoard → PinAt → Option Control
 own_control board at = option_and_then (λ cell. own_where cell cell.ctl) (entry_at board at)
 
--- The driver at `at` is one-sided, and its control is cell number `cell`. The last argument is the driver's control, or None if the
--- control is not the driver's own cell.
+-- The driver at `at` is one-sided, and its control is cell number `cell`. The last argument is the driver's
+-- control. It is None if the control is not the driver's own cell, or if the driver has no control.
 abbrev pub is_one_sided_by : RawBoard → ℕ → PinAt → Option Control → Bool
 is_one_sided_by board cell at None = false
 is_one_sided_by board cell at (Some control) = (control.cell == cell) && is_pinned board at && not (is_switching board at control.disable)
@@ -175,7 +175,7 @@ tests_by_at board c net place = is_by c (place_drive board net place) && is_test
 abbrev pub tests_by : RawBoard → Ctl → Net → Bool
 tests_by board c net = any_below (length net.pins) (tests_by_at board c net)
 
--- the control is useful
+-- the control is useful: it is safe alone and enables a tested driver
 abbrev pub is_useful : RawBoard → Ctl → Bool
 is_useful board c = is_safe_alone board c && list_any (tests_by board c) board.nets
 

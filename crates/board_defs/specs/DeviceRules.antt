@@ -122,7 +122,7 @@ drives_bit bit cell = is_on bit cell.bit && is_driving cell.role
 abbrev pub reads_bit : ℕ → Cell → Bool
 reads_bit bit cell = is_on bit cell.bit && is_receiving cell.role
 
--- the driving entry of a port bit; a device has at most one for each
+-- the driving entry of a port bit, if there is one; the rules of devices allow at most one
 abbrev pub driving_entry : RawDevice → ℕ → Option Cell
 driving_entry device bit = find (drives_bit bit) device.cells
 
@@ -130,11 +130,11 @@ driving_entry device bit = find (drives_bit bit) device.cells
 abbrev pub entry_of : (Role → Bool) → RawDevice → ℕ → Option Cell
 entry_of roles device cell = find (λ entry. (entry.num == cell) && roles entry.role) device.cells
 
--- the reading entry of a cell, which has at most one
+-- the reading entry of a cell, if there is one; the rules of devices allow at most one
 abbrev pub reading_entry : RawDevice → ℕ → Option Cell
 reading_entry device cell = entry_of is_reading device cell
 
--- the entry for the update latch of a cell, which has at most one
+-- the entry for the update latch of a cell, if there is one; the rules of devices allow at most one
 abbrev pub writing_entry : RawDevice → ℕ → Option Cell
 writing_entry device cell = entry_of is_writing device cell
 

@@ -21,8 +21,10 @@ use Rattle.board_defs.specs.Faults.{singles, SinglePrecedes, IsSingle}
 abbrev pub SafeByPairs : Type 0
 SafeByPairs = (board : RawBoard) (setting : Enabling) → IsBoard board → IsSafe board setting ↔ IsPairwiseSafe board setting
 
--- Each Boolean test of `Decided.antt` passes if and only if its term is true. The tests look only at single controls and at pairs of
--- controls, while most terms mean that there is a safe setting with some property.
+-- Each Boolean test of `Decided.antt` is true if and only if its term is true. For `are_paired`, the two nets
+-- must have different numbers. `reason_of` gives the reason why a net is not covered, or None if the net is
+-- covered. The tests look only at single controls and at pairs of controls, while most terms mean that there
+-- is a safe setting with some property.
 pub record DecidesTerms (board : RawBoard) : Type 0 where
   pub safe : (c : Ctl) → Decides (is_safe_alone board c) (IsSafe board (just c))
   pub together : (a b : Ctl) → Decides (are_together board a b) (AreTogether board a b)
@@ -62,7 +64,9 @@ pub record ControlsNew (board : RawBoard) (earlier : List (List Ctl)) (c : Ctl) 
   pub tested : IsTestedDriver board n place
   pub new : SomePass earlier (λ setting. enables board setting pin ≡ true) → ⊥
 
--- the Boolean functions that choose the passes agree with the definitions of their terms
+-- The functions that choose the passes agree with the definitions of their terms. `useful_controls` and
+-- `tested_drivers` list exactly the useful controls and the ways in which the tested drivers of a net are
+-- enabled.
 pub record SaysPasses (board : RawBoard) : Type 0 where
   pub useful_in_order : IsInControlOrder (useful_controls board)
   pub useful : (c : Ctl) → Decides (holds (useful_controls board) c) (IsUseful board c)
@@ -83,7 +87,8 @@ pub record SaysPasses (board : RawBoard) : Type 0 where
       → Decides (are_compatible board (Some d) (Some e))
       (IsSafe board (holds (with_driver (with_driver [] d) e)))
 
--- the Boolean functions that choose the passes agree with the definitions of their terms, and `passes_of` meets the requirements on passes
+-- the functions that choose the passes agree with the definitions of their terms, and `passes_of` meets the
+-- requirements on passes
 pub record PassesAre (board : RawBoard) : Type 0 where
   pub said : SaysPasses board
   pub kept : ArePasses board (passes_of board)

@@ -22,7 +22,7 @@ cells_of part (Bypass n) = []
 abbrev pub all_cells : RawBoard → List Ctl
 all_cells board = flat_map (λ part. cells_of part.0 part.1.kind) (enumerate_from 0 board.chain)
 
--- the useful controls, in control order
+-- The useful controls, in control order. A control is useful if it is safe alone and enables a tested driver.
 abbrev pub useful_controls : RawBoard → List Ctl
 useful_controls board = filter (is_useful board) (all_cells board)
 
@@ -40,7 +40,7 @@ is_enabled setting AlwaysOn = true
 is_enabled setting OneSided = false
 is_enabled setting (By c) = holds setting c
 
--- the setting with the driver's control added
+-- the setting with the driver's control added, or the setting itself if no control enables the driver
 abbrev pub with_driver : List Ctl → Drive → List Ctl
 with_driver setting AlwaysOn = setting
 with_driver setting OneSided = setting

@@ -1,4 +1,4 @@
--- The pins of a board: drivers, receivers, dark pins and guarded nets.
+-- The pins of a board: drivers, receivers and dark pins. Also the guarded nets, and the lengths of the chain's scans.
 use Rattle.std.specs.Prelude.{◌≡◌, ℕ, ◌<◌, ◌==◌, Bool, true, false, not, ◌&&◌, ◌||◌, length, sum_by, Option, Some, None, slice_get, is_some, option_and_then, option_map, if◌then◌else◌, List, []}
 use Rattle.std.specs.List.{list_any}
 use Rattle.board_defs.specs.declared.device.Control.{Control}
@@ -130,7 +130,8 @@ is_pulled_to value (Some b) = is_same value b
 abbrev pub lets_switch : RawBoard → Net → Bool → Bool
 lets_switch board net value = not (guarded board net) && is_pulled_to value net.pull
 
--- the way in which a driver with this control is enabled on the net
+-- The way in which a driver with this entry and this control is enabled on the net. The driver belongs to
+-- part number `part`. It is always on if it has no control.
 abbrev pub drive_by : RawBoard → Net → ℕ → Cell → Option Control → Drive
 drive_by board net part cell None = AlwaysOn
 drive_by board net part cell (Some control) =

@@ -44,7 +44,8 @@ abbrev pub inserted : Ctl → List Ctl → List Ctl
 inserted c [] = c ∷ []
 inserted c (d ∷ list) = cond (precedes d c) (d ∷ inserted c list) (cond (same_ctl c d) (d ∷ list) (c ∷ d ∷ list))
 
--- A driver without a control is enabled in every setting. Any other driver is enabled in a setting that has its control.
+-- A driver without a control is enabled in every setting. Any other driver is enabled if the setting has its
+-- control.
 abbrev pub enables_by : Enabling → ℕ → Option Control → Bool
 enables_by setting part None = true
 enables_by setting part (Some control) = setting (record { part = part; cell = control.cell })

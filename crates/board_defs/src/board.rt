@@ -89,8 +89,8 @@ impl Ctl {
 #[derive(Clone, Copy, PartialEq, Eq)]
 pub enum Drive {
     AlwaysOn,
-    /// The driver's own cell enables it, and the net is guarded or is not pulled to the cell's disable value. The same
-    /// bit then carries the data and enables the driver, so no safe setting enables the driver.
+    /// The driver's own cell enables it, and the net is guarded or is not pulled to the cell's disable value.
+    /// No safe setting enables such a driver.
     OneSided,
     /// The control enables the driver: a control cell, or the driver's own cell. The second case needs an unguarded net
     /// that is pulled to the cell's disable value: the pull then gives the bit while the driver is off.

@@ -122,7 +122,8 @@ pub enum Edition {
     Of2001,
 }
 
-/// The control cell of a driver, and the value at which it disables the driver.
+/// The cell that enables and disables a driver: a control cell, or the driver's own cell. The cell disables
+/// the driver at the value `disable`.
 #[derive(Clone, Copy, Debug)]
 pub struct Control {
     pub cell: u32,

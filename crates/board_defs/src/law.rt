@@ -12,24 +12,25 @@ pub fn safe_by_pairs()
     ensures { SafeByPairs }
 {}
 
-/// Boolean tests, which look only at single controls and at pairs of controls, agree with the
-/// definitions of these terms: controls that are safe alone or together, useful controls, covered
-/// and paired nets, tested pins, and the reasons why a net is not covered.
+/// On a board that keeps the rules of boards, Boolean tests agree with the definitions of these terms:
+/// controls that are safe alone or together, useful controls, covered and paired nets, tested pins, and the
+/// reasons why a net is not covered. The tests look only at single controls and at pairs of controls.
 pub fn terms_decided()
     ensures { TermsDecided }
 {}
 
-/// The passes of a board meet the requirements on passes (`ArePasses`). Every pass is safe. For each covered net, some
-/// pass observes it. For any two paired nets, some pass observes both. For each tested driver and each tested receiver,
-/// some pass tests it. Each pass observes a net by some tested driver for the first time, or observes two paired nets
-/// together for the first time. The Boolean functions that choose the passes agree with the definitions of their terms
-/// (`SaysPasses`).
+/// On a board that keeps the rules of boards, the passes meet the requirements on passes (`ArePasses`). Every
+/// pass is safe. For each covered net, some pass observes it. For any two paired nets, some pass observes
+/// both. For each tested driver and each tested receiver, some pass tests it. Each pass observes a net by
+/// some tested driver for the first time, or observes two paired nets together for the first time. The
+/// functions that choose the passes agree with the definitions of their terms (`SaysPasses`).
 pub fn passes_kept()
     ensures { PassesKept }
 {}
 
-/// The list of single faults has exactly the stuck faults of covered nets, the open faults of tested pins and the
-/// shorts of paired nets. It has each fault once, in the order `SinglePrecedes`.
+/// On a board that keeps the rules of boards, the list of single faults has exactly the stuck faults of
+/// covered nets, the open faults of tested pins and the shorts of paired nets. The first net of a short has
+/// the lower number. The list has each fault once, in the order `SinglePrecedes`.
 pub fn singles_listed()
     ensures { SinglesListed }
 {}

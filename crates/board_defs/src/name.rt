@@ -6,12 +6,12 @@ ghost use Rattle.board_defs.specs.NameBytes.{kept_bytes};
 use std::alloc::{AllocError, Global};
 use std::marker::Model;
 
-/// The number of bytes that a name holds without memory of its own. A board has many names, and most of them are no
-/// longer than this.
+/// The largest number of bytes that a name holds without memory of its own. A board has many names, and most
+/// of them are no longer than this.
 const SHORT: usize = 24;
 
-// The bytes of a name. A short name holds them in the value itself: they are the first `length` bytes of `bytes`. A
-// long name has memory of its own.
+// The bytes of a name. `Short` holds at most 24 bytes in the value itself: they are the first `length` bytes
+// of `bytes`. `Long` holds any number of bytes in memory of its own.
 #[derive(Debug, Drop)]
 enum Kept {
     Short { bytes: [u8; SHORT], length: u8 },

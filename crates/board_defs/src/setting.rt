@@ -90,8 +90,8 @@ fn control_at(controls: &[Ctl], place: usize) -> Option<Ctl>
     controls.get(place).copied()
 }
 
-/// Returns the place of the control in the list, or None if the control is not in the list. The list must be in
-/// control order.
+/// Returns the place of the control in the list, or None if the control is not in the list. The list must be
+/// in control order and without repeats.
 pub fn place_in(controls: &[Ctl], c: Ctl) -> Option<usize>
     requires { IsInControlOrder controls.now }
     ensures { MatchOption result (holds controls.now c ≡ false)

@@ -40,7 +40,7 @@ bus_of_three : bus_line 3 7 ≡ codes "NET B7 U1.72 U2.72 U3.72\n"
 unfolding digits
 bus_of_three = refl
 
--- the net file of `k` parts has `32 k + 8` lines, one for each net; here `k` is 1
+-- The net file of `k` parts has `32 k + 8` lines, one for each net. The samples have 1 and 2 parts.
 nets_of_one : count_by (λ byte. byte == 10) (net_text 1) ≡ 40
 unfolding net_text digits
 nets_of_one = refl
@@ -78,7 +78,7 @@ last_cell : device_cell_line 76 ≡ codes "\"76 (BC_7, B(7), bidir, X, 4, 1, Z)\
 unfolding digits
 last_cell = refl
 
--- The lines of cells 0 to 4, which are the controls.
+-- the lines of cells 0 to 4, which are the control cells
 control_cells : map device_cell_line (range_with_len 0 5) ≡
     codes "\"0 (BC_1, *, control, 1),\" &\n"
     ∷ codes "\"1 (BC_1, *, control, 1),\" &\n"

@@ -3,11 +3,11 @@
 use Rattle.std.specs.Prelude.{ℕ, ◌+◌, ◌-◌, ◌/◌, ◌==◌, List, ◌++◌, codes, decimal, nat_lt, if◌then◌else◌}
 use Rattle.board_gen.specs.BoardTexts.{each}
 
--- `count` consecutive numbers with commas between them, from `first` on
+-- `count` consecutive numbers with commas between them, from `first` on; `count` is at least 1
 abbrev pub numbers : ℕ → ℕ → List ℕ
 numbers first count = decimal first ++ each (λ n. codes "," ++ decimal n) (first + 1) (count - 1)
 
--- the boundary register's entry for a cell
+-- the boundary register's entry for a cell, without the cell's number
 abbrev pub cell_text : ℕ → List ℕ
 cell_text cell =
     if nat_lt cell 5 then codes " (BC_1, *, control, 1)" else (

@@ -69,8 +69,8 @@ fn push_ring(text: &mut Vec<u8>, number: u32, part: u32) -> Result<(), AllocErro
     Ok(())
 }
 
-// Appends the line of the net from output `bit` of a part to the next part. `part` must be at most 255, and `bit` must
-// be below 32.
+// Appends the line of the net from output `bit` of a part to input `bit` of the next part. `number` is the number of
+// parts. `part` must be at most 255, and `bit` must be below 32.
 fn push_ring_line(text: &mut Vec<u8>, number: u32, part: u32, bit: u32) -> Result<(), AllocError>
     requires part { part ≤ 255 }
     requires bit { bit < 32 }

@@ -117,7 +117,7 @@ fn end_of(cell: u32) -> &'static [u8]
     }
 }
 
-// Appends the boundary register's entry for a cell.
+// Appends the boundary register's entry for a cell, without the cell's number.
 fn push_cell(text: &mut Vec<u8>, cell: u32) -> Result<(), AllocError>
     ensures { OnOk result (text.new.items ≡ text.old.items ++ cell_text cell) }
 {
@@ -129,7 +129,7 @@ fn push_cell(text: &mut Vec<u8>, cell: u32) -> Result<(), AllocError>
     }
 }
 
-// Appends the boundary register's entry for output `index`. There is one control for each eight outputs.
+// Appends the boundary register's entry for output `index`, without the cell's number. There is one control for each eight outputs.
 fn push_output(text: &mut Vec<u8>, index: u32) -> Result<(), AllocError>
     ensures { OnOk result
         (text.new.items
@@ -142,7 +142,7 @@ fn push_output(text: &mut Vec<u8>, index: u32) -> Result<(), AllocError>
     text.extend_from_slice(b", 1, Z)")
 }
 
-// Appends the boundary register's entry for input `index`.
+// Appends the boundary register's entry for input `index`, without the cell's number.
 fn push_input(text: &mut Vec<u8>, index: u32) -> Result<(), AllocError>
     ensures { OnOk result
         (text.new.items
@@ -152,7 +152,7 @@ fn push_input(text: &mut Vec<u8>, index: u32) -> Result<(), AllocError>
     text.extend_from_slice(b"), input, X)")
 }
 
-// Appends the boundary register's entry for pin `index` of the bus.
+// Appends the boundary register's entry for pin `index` of the bus, without the cell's number.
 fn push_bus_cell(text: &mut Vec<u8>, index: u32) -> Result<(), AllocError>
     ensures { OnOk result
         (text.new.items

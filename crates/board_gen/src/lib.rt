@@ -20,7 +20,7 @@ pub struct Made {
     pub chain: Vec<u8>,
     /// The net file.
     pub nets: Vec<u8>,
-    /// The BSDL text of the board's only device.
+    /// The BSDL text of GEN, the device that each part of the board is.
     pub bsdl: Vec<u8>,
 }
 

@@ -20,7 +20,7 @@ shared_list : cover_text shared ≡ lines (codes "NETS 1 COVERED 1" ∷ codes "D
 unfolding cover_text digits
 shared_list = refl
 
--- A board on which a pin of a part outside the chain makes its net dark, unless the part is inert.
+-- A board on which net N0 has a pin of a part outside the chain. The pin is dark unless the part is inert.
 abbrev beside : Bool → RawBoard
 beside inert =
     board (two ∷ rcv ∷ [])

@@ -27,7 +27,8 @@ abbrev pub IsTestedAs : RawBoard → PinUse → ℕ → ℕ → Type 0
 IsTestedAs board Driver n place = IsTestedDriver board n place
 IsTestedAs board Receiver n place = IsTestedReceiver board n place
 
--- for each net, pin and pair of nets of the board, the answers say what the board's safe settings cover, test and observe
+-- the answers are true of the board: they agree with the definitions of covered nets, reasons, tested pins
+-- and paired nets
 pub record AreTrue (board : RawBoard) (answers : CoverAnswers) : Type 0 where
   pub covered : (n : ℕ) (net : Net) → slice_get board.nets n ≡ Some net → Decides (answers.covered net) (IsCovered board n)
   pub reason : (n : ℕ) (net : Net) → slice_get board.nets n ≡ Some net

@@ -1,5 +1,6 @@
--- The coverage list of a board. It gives the number of nets and of covered nets, and names each net that is not covered. Of the covered
--- nets, it names each driver and receiver that no safe setting tests, and each pair of nets that no safe setting observes together.
+-- The coverage list of a board. It gives the number of nets and of covered nets, and names each net that is
+-- not covered. It names each driver and each receiver of a covered net that no safe setting tests. It also
+-- names each pair of covered nets that no safe setting observes together.
 use Rattle.std.specs.Prelude.{ℕ, Bool, not, ◌&&◌, List, [], ◌∷◌, ◌++◌, length, codes, decimal, filter, Option, None, Some, is_some, slice_get}
 use Rattle.std.specs.List.{flat_map, range_with_len}
 use Rattle.line_printer.specs.Prints.{line_of}

@@ -6,9 +6,10 @@ ghost use Rattle.coverage_list.specs.CoverList.{IsCoverList};
 
 use board_defs::law::terms_decided;
 
-/// The coverage list of a board is true. It gives the number of nets and the number of covered nets. It lists each net
-/// that is not covered, with its reason. Of the covered nets, it lists each driver and each receiver that no safe
-/// setting tests, and each pair of nets that no safe setting observes together. It lists no other net, pin or pair.
+/// On a board that keeps the rules of boards, the coverage list is true. It gives the number of nets and the
+/// number of covered nets. It lists each net that is not covered, with its reason. It lists each driver and
+/// each receiver of a covered net that no safe setting tests, and each pair of covered nets that no safe
+/// setting observes together. It lists no other net, pin or pair.
 pub fn lists_are_true()
     ensures { (board : RawBoard) → IsBoard board → IsCoverList board (cover_text board) }
 {

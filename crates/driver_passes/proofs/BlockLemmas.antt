@@ -1,4 +1,6 @@
--- Lemmas about sets of places that are made of blocks. A block has the places of one word.
+-- Lemmas about sets of places in the list of useful controls. Place `n` has bit `n % 64` of word `n / 64`. A
+-- set is a list of blocks, and each block has places that belong to one word. A control is useful if it is
+-- safe alone and enables a tested driver.
 use Rattle.std.proofs.Common.{◌≡◌, ◌⊎◌, inl, inr, ℕ, ◌+◌, ◌*◌, ◌/◌, ◌%◌, ◌^◌, ◌<◌, Bool, ◌&&◌, ◌||◌, List, [], ◌∷◌, ◌++◌, ap, bit_or, false, ltb, sym, ◌∙◌, arith}
 use Rattle.std.specs.Prelude.{◌==◌}
 use Rattle.std.proofs.Math.Bool.{and-false, and-or_distrib_left, or_comm, or-false}

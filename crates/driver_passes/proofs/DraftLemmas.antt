@@ -1,4 +1,5 @@
--- Lemmas about the two sets of a draft, that is, a pass that is being made: the controls in the pass, and the controls that can be added.
+-- Lemmas about the two sets of a draft, that is, a pass that is being made: the controls in the pass, and the
+-- controls that can be added. A control is useful if it is safe alone and enables a tested driver.
 use Rattle.std.proofs.Common.{◌≡◌, ◌⊎◌, inl, inr, ℕ, ◌+◌, ◌/◌, ◌<◌, Bool, true, false, not, ◌&&◌, ◌||◌, List, [], length, get_or, Some, sym, ◌∙◌, ap, arith}
 use Rattle.std.specs.Prelude.{◌==◌, slice_get}
 use Rattle.std.specs.List.{list_any}

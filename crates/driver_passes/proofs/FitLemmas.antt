@@ -105,7 +105,8 @@ held_nothing board held place c true are stands h =
     same n (inr differ) = sym (ap (λ t. t || is_in held n) (ne_eqb n place differ))
 held_nothing board held place c false are stands h = refl
 
--- A control whose place is not in `free` is in the draft already, or it is not together with all controls of the draft.
+-- A control whose place is not in `free` is in the draft already, or it is not together with all controls of
+-- the draft. So the step over this control leaves the setting unchanged.
 pub closed_nothing : (board : RawBoard) (held free : List ℕ) (place : ℕ) (c : Ctl) (t : Bool)
     → PassesAre board → IsDraft board held free → slice_get (useful_controls board) place ≡ Some c
     → is_in free place ≡ false → (joins_setting board (setting_of board held) c ≡ false → t ≡ false)

@@ -89,7 +89,7 @@ passes_whole board useful passes n most e =
     (λ v. fold (add_for_driver board useful) []
     (flat_map (λ (drivers : List Drive). drivers) v)) (take_all n (drivers_by_net board) all)
 
--- One turn of the loop over the nets, for net `n`.
+-- The iteration of the loop for net `n` adds the passes for the tested drivers of this net.
 pub drivers_more : (board : RawBoard) (step : List (List Ctl) → Drive → List (List Ctl))
     (before after : List (List Ctl)) (drivers : List Drive) (n : ℕ) → n < length board.nets
     → drivers ≡ drivers_at board n

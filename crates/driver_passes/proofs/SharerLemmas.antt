@@ -1,4 +1,5 @@
--- Lemmas about the useful controls that share each net with another control.
+-- Lemmas about the useful controls that share each net with another control. A control is useful if it is
+-- safe alone and enables a tested driver.
 use Rattle.std.proofs.Common.{◌≡◌, ◌⊎◌, inl, inr, ℕ, zero, suc, ◌+◌, ◌<◌, ◌&&◌, ◌||◌, List, [], ◌∷◌, ◌++◌, length, get_or, Some, refl, sym, ◌∙◌, ap, subst, arith, ltb}
 use Rattle.std.specs.Prelude.{◌==◌, slice_get, All}
 use Rattle.std.specs.List.{range_with_len}
@@ -33,7 +34,8 @@ shared_within board c nets most e f =
     let within : k < count = omega (arith, less, length-range_with_len 0 count) in
     omega (arith, get_or-range_with_len 0 count k d within, within, f)))
 
--- One turn of the loop over the useful controls, for useful control number `k`.
+-- The iteration of the loop for useful control number `k` adds the place `k` to the lists of the nets that this
+-- control shares with another control.
 pub sharers_more : (board : RawBoard) (k : ℕ) (d : Ctl) (nets : List ℕ)
     (before after : List (List ℕ)) → AreSharersBelow board k before
     → slice_get (useful_controls board) k ≡ Some d → nets ≡ shared_nets board d

@@ -1,5 +1,6 @@
--- Lemmas about the nets that each useful control tests, that is, the nets with a tested driver of this control, and about the nets that a
--- pass shows by these controls.
+-- Lemmas about the nets that each useful control tests, that is, the nets with a tested driver of this
+-- control, and about the nets that a pass shows by these controls. A control is useful if it is safe alone
+-- and enables a tested driver.
 use Rattle.std.proofs.Common.{◌≡◌, ◌⊎◌, inl, inr, ℕ, zero, suc, ◌+◌, ◌/◌, ◌≤◌, ◌<◌, Bool, true, false, ◌&&◌, ◌||◌, List, [], ◌∷◌, ◌++◌, length, get_or, set, take, drop, Some, refl, sym, ◌∙◌, ap, arith, ltb}
 use Rattle.std.specs.Prelude.{◌==◌, slice_get, All}
 use Rattle.std.specs.List.{list_any}
@@ -127,7 +128,7 @@ noted_more board start before after net by more one two place c at n =
     by_test true false b x = refl
     by_test false a b x = refl
 
--- One turn of the loop over the nets, for net `net`.
+-- The iteration of the loop for net `net` adds this net to the list of each useful control that tests it.
 pub listed_more : (board : RawBoard) (net : ℕ) (before after : List (List ℕ)) (drivers : List Drive)
     → AreListed board net before → length after ≡ length before → drivers ≡ drivers_at board net
     → AreNoted board net (λ c. drives c drivers) before after → AreListed board (net + 1) after
@@ -140,7 +141,7 @@ listed_more board net before after drivers are size e noted = record {
       ∙ below_more (λ m. drives c (drivers_at board m)) net n;
 }
 
--- One turn of the loop over the drivers of a net, for driver `i`.
+-- The iteration of the loop for driver `i` of a net adds the net to the list of this driver's control.
 pub noted_next : (board : RawBoard) (drivers : List Drive) (i net : ℕ)
     (start before after : List (List ℕ)) → i < length drivers
     → AreNoted board net (λ c. drives c (take i drivers)) start before

@@ -1,4 +1,5 @@
--- Proofs that the passes have only useful controls.
+-- Proofs that the passes have only useful controls. A control is useful if it is safe alone and enables a
+-- tested driver.
 use Rattle.std.proofs.Common.{◌≡◌, ◌⊎◌, inl, inr, ℕ, zero, suc, true, List, [], ◌∷◌, ◌++◌, Some, sym, ◌∙◌, ap}
 use Rattle.std.specs.Prelude.{slice_get}
 use Rattle.board_defs.specs.declared.board.Ctl.{Ctl}

@@ -16,8 +16,9 @@ fn are_same(drivers: &[Drive], others: &[Drive]) -> bool
     drivers == others
 }
 
-/// Returns the place of the first driver's control in the list of useful controls. Returns None if there is no driver,
-/// or if the first driver has no useful control.
+/// Returns the place of the first driver's control in the list of useful controls. Returns None if there is
+/// no driver, or if the first driver has no useful control. A control is useful if it is safe alone and
+/// enables a tested driver.
 fn first_place(board: &BoardClasses<'_>, drivers: &[Drive]) -> Option<usize>
     ensures { IfSome result (λ i. i < length (useful_controls board.now)) }
 {
@@ -42,9 +43,9 @@ fn like_of(board: &BoardClasses<'_>, other: usize, net: usize) -> usize
     }
 }
 
-/// Returns, for each net, an earlier net with an equal list of tested drivers, or the net itself. Compares each net
-/// with at most one earlier net: the latest one whose first tested driver has the same control, or net 0 if there is
-/// none.
+/// Returns, for each net, an earlier net with an equal list of tested drivers, or the net itself. Compares a
+/// net with at most one earlier net, and only if its first tested driver has a control. The earlier net is
+/// the latest one whose first tested driver has the same control, or net 0 if there is none.
 pub fn likes_of(alloc: Global, board: &BoardClasses<'_>) -> Result<Vec<u32>, AllocError>
     ensures { IfOk result (λ likes. AreAlike board.now likes.items) }
 {

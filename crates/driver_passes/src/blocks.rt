@@ -1,4 +1,5 @@
-// Sets of places in the list of useful controls, stored as blocks. A block has the places of one word.
+// Sets of places in the list of useful controls, stored as lists of blocks. Each block has places that belong
+// to one word of 64 places. A control is useful if it is safe alone and enables a tested driver.
 ghost use Rattle.std.specs.Prelude.{◌≡◌, ◌/◌, ◌==◌, ◌||◌, ℕ, IfOk, OnOk};
 ghost use Rattle.driver_passes.specs.inner.Blocks.{block_has, has_place};
 ghost use Rattle.driver_passes.specs.inner.Drafts.{has_number};
@@ -6,7 +7,8 @@ ghost use Rattle.driver_passes.specs.inner.Drafts.{has_number};
 use lists::Items;
 use std::alloc::{AllocError, Global};
 
-/// The places of a set that belong to one word. Place `n` has bit `n % 64` of word `n / 64`.
+/// Some places of a set. All of them belong to word `word`. Place `n` belongs to word `n / 64`, and is in the
+/// block if bit `n % 64` of `bits` is 1.
 #[derive(Clone, Copy, Drop)]
 pub struct Block {
     pub word: usize,

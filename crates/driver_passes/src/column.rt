@@ -7,7 +7,7 @@ use crate::number_set::NumberSet;
 use std::alloc::{AllocError, Global};
 
 /// Word `number` of each pass's row. These words are next to each other in memory, so looking up one net in all of them
-/// is fast. The rows themselves are far apart.
+/// is fast. The rows themselves are far apart. A column belongs to a list of rows if it has word `number` of each row.
 #[derive(Drop)]
 pub struct Column {
     pub number: usize,
@@ -53,7 +53,8 @@ impl Column {
         Ok(())
     }
 
-    /// Appends the word of `row`. The column then belongs to the rows with `row` appended.
+    /// Appends word `number` of `row`. If the column belonged to a list of rows, it now belongs to this list with `row`
+    /// appended.
     pub fn add(&mut self, row: &NumberSet) -> Result<(), AllocError>
         ensures { OnOk result ((rows : List (List ℕ)) → IsColumn rows self.old →
             IsColumn (rows ++ row.now ∷ []) self.new) }

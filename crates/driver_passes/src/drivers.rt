@@ -1,4 +1,5 @@
-// Makes the passes that together enable every tested driver. A draft is a pass that is being made.
+// Makes the passes that together enable every tested driver. A draft is a pass that is being made. A control
+// is useful if it is safe alone and enables a tested driver.
 ghost use Rattle.std.specs.Prelude.{◌≡◌, ◌<◌, ◌≤◌, ◌++◌, ◌∷◌, [], false, true, fold, length, slice_get, take, All, IfOk, IfSome, OnOk};
 ghost use Rattle.std.specs.List.{flat_map, list_any};
 ghost use Rattle.board_defs.specs.Limits.{most_pins};

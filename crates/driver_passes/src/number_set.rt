@@ -1,5 +1,6 @@
-// Sets of numbers, stored as words with one bit for each number. A number is the number of a net, or the place of a
-// control in the list of useful controls.
+// Sets of numbers, stored as words with one bit for each number. A number is the number of a net, or the
+// place of a control in the list of useful controls. A control is useful if it is safe alone and enables a
+// tested driver.
 ghost use Rattle.std.specs.Prelude.{◌≡◌, ◌≤◌, ◌<◌, ◌+◌, ◌*◌, ◌/◌, ◌==◌, ◌&&◌, ◌||◌, ℕ, Bool, not, false, true, length, replicate, slice_index_or, All, MatchOption, IfOk};
 ghost use Rattle.net_classes.specs.Pairs.{AreWordBits};
 ghost use Rattle.driver_passes.specs.inner.Drafts.{has_number};

@@ -1,5 +1,5 @@
-// Finds paired nets, and the two tested drivers that pair them. Two nets are paired if one safe setting enables a
-// tested driver of each.
+// Finds paired nets, and the two tested drivers that pair them. Two nets are paired if one safe setting
+// enables a tested driver of each. A control is useful if it is safe alone and enables a tested driver.
 ghost use Rattle.std.specs.Prelude.{◌≡◌, ◌<◌, ◌≤◌, ◌+◌, ◌*◌, ◌/◌, ℕ, false, find, length, All, IfSome, MatchOption};
 ghost use Rattle.board_defs.specs.Passes.{first_pair};
 ghost use Rattle.net_classes.specs.Pairs.{AreWordBits, drivers_at, fit};

@@ -1,4 +1,5 @@
-// Adds passes until, for every two paired nets, some pass observes both. A draft is a pass that is being made.
+// Adds passes until, for every two paired nets, some pass observes both. A draft is a pass that is being
+// made. A control is useful if it is safe alone and enables a tested driver.
 ghost use Rattle.std.specs.Prelude.{◌≡◌, ◌<◌, ◌≤◌, ◌+◌, ◌*◌, ◌^◌, ◌∷◌, ◌++◌, ℕ, [], false, true, fold, length, IfOk, OnOk};
 ghost use Rattle.board_defs.specs.Limits.{most_nets, most_pins};
 ghost use Rattle.board_defs.specs.Passes.{are_shown, drivers_by_net, pair_pass, pair_passes, useful_controls};
@@ -28,7 +29,7 @@ pub struct Pairing {
     pub rows: Vec<NumberSet>,
     /// The word of each row that has the bit of the current net.
     pub column: Column,
-    /// Of the nets from the current net on, those that no pass so far shows together with the current net. Earlier nets
+    /// The nets from the current net on that no pass so far shows together with the current net. Earlier nets
     /// may be in the set or not.
     pub left: NumberSet,
     /// The nets that every pass so far shows. Looking up a net in each row instead would be slow, since the rows are
@@ -206,7 +207,8 @@ impl Pairing {
         Ok(())
     }
 
-    /// Adds the passes that are needed for all pairs of nets. There must be at most `most_pins` passes so far.
+    /// Adds passes until, for every two paired nets, some pass observes both. The passes so far must be passes of this
+    /// board and enable every tested driver. There must be at most `most_pins` of them.
     fn add_for_all(&mut self, alloc: Global, board: &BoardTables<'_>) -> Result<(), AllocError>
         requires pairing { ArePairing board.now self.old }
         requires few { length self.old.passes.items ≤ most_pins }

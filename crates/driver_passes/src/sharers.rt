@@ -1,5 +1,6 @@
-// Finds, for each net, the useful controls that share the net with another control. Two controls share a net if each of
-// them controls a driver of the net.
+// Finds, for each net, the useful controls that share the net with another control. Two controls share a net
+// if each of them controls a driver of the net. A control is useful if it is safe alone and enables a tested
+// driver.
 ghost use Rattle.std.specs.Prelude.{◌≡◌, ◌<◌, ◌==◌, ◌&&◌, ◌||◌, ℕ, [], not, length, slice_index_or, All, IfOk, OnOk};
 ghost use Rattle.board_defs.specs.Passes.{useful_controls};
 ghost use Rattle.driver_passes.specs.inner.Blocks.{has_place};

@@ -1,5 +1,5 @@
-// A board with the tables from which its passes are made. A board's classes say what its nets, pins and controls can do
-// in safe settings.
+// A board with the tables from which its passes are made. A board's classes say what its nets, pins and
+// controls can do in safe settings. A control is useful if it is safe alone and enables a tested driver.
 ghost use Rattle.std.specs.Prelude.{◌≡◌, ◌≤◌, true, IfOk};
 ghost use Rattle.board_defs.specs.Passes.{useful_controls};
 ghost use Rattle.board_defs.specs.Settings.{holds};
@@ -24,7 +24,8 @@ use std::marker::Model;
 #[derive(Drop)]
 pub struct BoardTables<'a> {
     classes: BoardClasses<'a>,
-    /// For each net, the places of the useful controls that share the net with another control.
+    /// For each net, the useful controls that share the net with another control. Each of these controls is given by
+    /// its place in the list of useful controls.
     sharers: Vec<Blocks>,
     tested_nets: TestedNets,
     /// For each net, an earlier net whose tested drivers are enabled in the same ways, or the net itself.
@@ -65,7 +66,8 @@ impl<'a> BoardTables<'a> {
         })
     }
 
-    /// Returns the board with its classes. The contract also says that the laws of boards hold for this board.
+    /// Returns the board with its classes. The contract also says that the board keeps the rules of boards,
+    /// and that the laws about its passes and its terms hold.
     pub fn classes(&self) -> &BoardClasses<'a>
         ensures same { result.now ≡ self.now }
         ensures laws { KeepsLaws self.now }
@@ -96,7 +98,8 @@ impl<'a> BoardTables<'a> {
         close_sharers(free, &self.sharers, self.classes.shared_nets(c));
     }
 
-    /// Returns the nets that a pass shows if its controls are the useful controls at the places in `held`.
+    /// Returns the nets that a pass shows, that is, the nets of which it enables a tested driver. `held` has the places
+    /// of the pass's controls in the list of useful controls.
     pub fn shown_by(&self, alloc: Global, held: &NumberSet) -> Result<NumberSet, AllocError>
         ensures { IfOk result (λ row. AreShownBy self.now (setting_of self.now held.now) row) }
     {

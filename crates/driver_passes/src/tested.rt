@@ -1,5 +1,6 @@
-// Finds the nets that each useful control tests, that is, the nets with a tested driver of this control. A pass shows
-// the nets that its controls test, and the nets with a tested driver that is always on.
+// Finds the nets that each useful control tests, that is, the nets with a tested driver of this control. A
+// pass shows the nets that its controls test, and the nets with a tested driver that is always on. A control
+// is useful if it is safe alone and enables a tested driver.
 ghost use Rattle.std.specs.Prelude.{◌≡◌, ◌<◌, ◌/◌, [], true, length, Some, IfOk, OnOk};
 ghost use Rattle.board_defs.specs.Decided.{is_by};
 ghost use Rattle.board_defs.specs.Passes.{shows, useful_controls};
@@ -13,7 +14,7 @@ use lists::blank;
 use net_classes::{BoardClasses, NetNumbers};
 use std::alloc::{AllocError, Global};
 
-/// The nets that the useful controls test.
+/// The nets that the useful controls test, and the nets with a tested driver that is always on.
 #[derive(Drop)]
 pub struct TestedNets {
     /// The nets with a tested driver that is always on. Every pass shows them.
@@ -95,7 +96,7 @@ fn nets_by_control(alloc: Global, board: &BoardClasses<'_>) -> Result<Vec<NetNum
 }
 
 impl TestedNets {
-    /// Finds the nets that the useful controls of the board test.
+    /// Finds these nets for the board.
     pub fn new(alloc: Global, board: &BoardClasses<'_>) -> Result<TestedNets, AllocError>
         ensures { IfOk result (λ nets. AreTestedNets board.now nets) }
     {

@@ -1,6 +1,6 @@
-// The two walks over the useful controls, which add controls to a draft, that is, to a pass that is being made. Two
-// controls are together if the setting with just these two is safe. A walk skips controls that cannot be added, 64 at a
-// time.
+// The two walks over the useful controls, which add controls to a draft, that is, to a pass that is being
+// made. Two controls are together if the setting with just these two is safe. A walk skips controls that
+// cannot be added, 64 at a time. A control is useful if it is safe alone and enables a tested driver.
 ghost use Rattle.std.specs.Prelude.{◌≡◌, ◌<◌, length};
 ghost use Rattle.board_defs.specs.Passes.{useful_controls};
 ghost use Rattle.driver_passes.specs.inner.Progress.{IsProgress};

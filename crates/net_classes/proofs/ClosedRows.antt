@@ -1,6 +1,7 @@
--- Lemmas about the row of a control, that is, the nets that some safe setting with the control observes. The row has the covered nets,
--- except the nets on which the control has no tested driver and which its shared nets close. A list of nets closes a covered net if each
--- tested driver of this net has a control with a driver on a net in the list.
+-- Lemmas about the row of a control, that is, the nets that some safe setting with the control observes. The shared nets of a control are
+-- the nets with a driver of this control and a driver of another control. A list of nets closes a covered net if each tested driver of this
+-- net has a control with a driver on a net in the list. If a control is safe alone, its row has each covered net, except those that its
+-- shared nets close and on which it has no tested driver.
 use Rattle.std.proofs.Common.{◌≡◌, inl, inr, ℕ, ◌+◌, ◌/◌, ◌<◌, ◌==◌, Bool, true, false, not, ◌&&◌, ◌||◌, List, [], ◌∷◌, Contains, Decides, length, slice_index_or, nat_lt, Option, Some, None, refl, sym, ◌∙◌, ap, subst, arith, All}
 use Rattle.std.specs.Prelude.{slice_get, filter}
 use Rattle.std.specs.List.{list_any, list_all}

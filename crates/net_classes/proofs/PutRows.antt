@@ -1,4 +1,5 @@
--- Lemmas about adding the row of one more control to the rows of a board.
+-- Lemmas about adding the row of one more control to the rows of a board. A control is useful if it is safe
+-- alone and enables a tested driver.
 use Rattle.std.proofs.Common.{◌≡◌, ◌⊎◌, inl, inr, ℕ, ◌+◌, ◌<◌, ◌≤◌, Bool, true, false, List, [], ◌∷◌, ◌++◌, length, take, get_or, Option, Some, None, refl, sym, ◌∙◌, ap, subst, arith, length-append}
 use Rattle.std.specs.Prelude.{is_some, option_map, slice_index_or}
 use Rattle.std.specs.Option.{option_to_list}
@@ -113,7 +114,7 @@ adds_row board before after c number row has cell for_c e f g = record {
               (subst (AreRowBits (fits_at board (By c))) (sym row) is);
         }
 
--- One turn of the loop over the useful controls adds the row of control number `i` and preserves the rows of the controls before it.
+-- One iteration of the loop over the useful controls adds the row of control number `i` and preserves the rows of the controls before it.
 pub rows_more : (board : RawBoard) (before after : PairRows) (useful : List Ctl) (i : ℕ) (c d : Ctl)
     → i < length useful → c ≡ get_or useful i c → AddsRow board before after c
     → ((d : Ctl) → Has (take i useful) d → IsRowOf board before d) → Has (take (i + 1) useful) d

@@ -1,4 +1,4 @@
--- Each control of a tested driver is useful.
+-- Each control of a tested driver is useful: it is safe alone and enables a tested driver.
 use Rattle.std.proofs.Common.{◌≡◌, ℕ, true, not, ◌&&◌, List, [], get_or, Option, Some, None, refl, sym, ◌∙◌, ap, subst}
 use Rattle.std.specs.Prelude.{slice_get, All, Contains}
 use Rattle.std.proofs.lemmas.Bool.{and_parts}

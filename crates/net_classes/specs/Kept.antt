@@ -22,11 +22,12 @@ or_none (Some n) = n
 abbrev pub row_number : PairRows → Ctl → ℕ
 row_number pairs c = or_none (item_of_cell (table pairs.numbers.items) c)
 
--- the words of row number `k`
+-- the words of row number `k`, or no words if there is no such row
 abbrev pub row_in : PairRows → ℕ → List ℕ
 row_in pairs k = slice_index_or pairs.rows.items k []
 
--- Row 0 has a 1 for each covered net. The row of a useful control `c` has a 1 for each net that some safe setting with `c` observes.
+-- Row 0 has a 1 for exactly the covered nets. The row of a useful control `c` has a 1 for exactly the nets that some safe
+-- setting with `c` observes. A control is useful if it is safe alone and enables a tested driver.
 pub record ArePairRows (board : RawBoard) (pairs : PairRows) : Type 0 where
   pub covered : AreRowBits (fits_at board AlwaysOn) (row_in pairs 0)
   pub each : (c : Ctl) → IsCell board c → is_useful board c ≡ true → AreRowBits (fits_at board (By c)) (row_in pairs (row_number pairs c))

@@ -1,4 +1,5 @@
--- The laws of boards, stated for one board. A law about the nets that two controls share, and a law about the drivers of paired nets.
+-- The laws about the passes and the terms of a board, stated for one board. Two more laws are about the nets
+-- that two controls share and about the drivers of paired nets.
 use Rattle.std.specs.Prelude.{◌≡◌, ℕ, false, List, Contains, is_some}
 use Rattle.std.specs.Bool.{Decides}
 use Rattle.board_defs.specs.declared.board.Ctl.{Ctl}
@@ -11,7 +12,7 @@ use Rattle.board_defs.specs.Laws.{DecidesTerms, PassesAre}
 use Rattle.net_facts.specs.Kept.{driven_nets, shared_nets}
 use Rattle.net_classes.specs.Pairs.{drivers_at, pairs_with}
 
--- the laws of boards hold for this board
+-- the board keeps the rules of boards, and the laws about its passes and its terms hold
 pub record KeepsLaws (board : RawBoard) : Type 0 where
   pub rules : IsBoard board
   pub passes : PassesAre board

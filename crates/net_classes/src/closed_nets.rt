@@ -172,7 +172,7 @@ fn add_closed_by(
 }
 
 /// Returns the nets in `closed`, followed by the covered nets that have a driver of a control in `others` and on which
-/// each tested driver has a control in one of the two sets.
+/// each tested driver has a control in `set` or `others`.
 fn closed_by_both(
     alloc: Global,
     closed: &[u32],
@@ -279,9 +279,9 @@ impl ClosedNets {
         })
     }
 
-    /// Returns the nets that `nets` closes. `nets` must not be empty, and `self` must be made for the board of `known`.
-    /// If one of `nets` is a bus with most of the controls, `self` then has the nets that the bus closes, and the next
-    /// call can use them.
+    /// Returns the nets that `nets` closes. `nets` must not be empty, and `self` must be made for the board
+    /// of `known`. Afterwards `self` has the nets that one net in `nets` closes, or those that `nets` closes.
+    /// The next call can reuse them.
     pub fn closed_by(
         &mut self,
         alloc: Global,

@@ -112,7 +112,8 @@ impl<'a> Known<'a> {
         &self.facts.shared
     }
 
-    /// Returns the useful controls, in control order.
+    /// Returns the useful controls, in control order. A control is useful if it is safe alone and enables a
+    /// tested driver.
     pub fn useful(&self) -> &[Ctl]
         ensures { result.now ≡ useful_controls self.now.board }
     {

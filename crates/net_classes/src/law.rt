@@ -9,8 +9,8 @@ pub fn nets_are_shared()
     ensures { NetsAreShared }
 {}
 
-/// `first_pair` looks for a tested driver of each of two nets such that one safe setting enables both drivers. It finds
-/// two such drivers if and only if one safe setting observes both nets.
+/// The definition `first_pair` of `board_defs` looks for a tested driver of each of two nets such that one safe setting
+/// enables both drivers. It finds two such drivers if and only if one safe setting observes both nets.
 pub fn pairs_have_drivers()
     ensures { PairsHaveDrivers }
 {}

@@ -21,7 +21,8 @@ use lists::Items;
 use net_facts::{NetNumbers, filled_table, item_at, push_if, put_at};
 use std::alloc::{AllocError, Global};
 
-/// The row of the covered nets, and for each useful control the row of the nets that some safe setting with this control observes.
+/// The row of the covered nets, and for each useful control the row of the nets that some safe setting with
+/// this control observes. A control is useful if it is safe alone and enables a tested driver.
 #[derive(Drop)]
 pub struct PairRows {
     /// The rows. Row 0 is the row of the covered nets.
@@ -125,7 +126,8 @@ fn covered_row(alloc: Global, known: &Known<'_>) -> Result<NetRow, AllocError>
 }
 
 /// Returns the row of a useful control, or None if that row is the row of the covered nets. `closed` must have the nets
-/// that the control's shared nets close.
+/// that the control's shared nets close, that is, the covered nets on which each tested driver has a control with a
+/// driver on a shared net. A shared net has a driver of this control and a driver of another control.
 fn row_for(
     alloc: Global,
     known: &Known<'_>,

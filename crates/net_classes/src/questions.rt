@@ -58,7 +58,8 @@ impl<'a> BoardClasses<'a> {
         self.board.raw()
     }
 
-    /// Does nothing. Its contract says that the laws of boards hold for this board.
+    /// Does nothing. Its contract says that the board keeps the rules of boards, and that the laws about its
+    /// passes and its terms hold.
     pub fn laws(&self)
         ensures { KeepsLaws self.now }
     {

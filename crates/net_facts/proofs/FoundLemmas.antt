@@ -18,7 +18,8 @@ found_more test k found next passes f p g =
     ∙ ap (λ t. cond t (found_with (found_below test k) k) (found_below test k)) p
     ∙ ap (found_below test) (sym (add-one k))
 
--- What `found` says about the places below `k`: none satisfies `test`, only place `i` does, or at least two do.
+-- The three cases of `found` for the places below `k`: none satisfies `test`, only place `i` does, or at
+-- least two do.
 data Places (test : ℕ → Bool) (k : ℕ) (found : Found) : Type 0 where
   none : found ≡ Nowhere → ((j : ℕ) → j < k → test j ≡ false) → Places test k found
   one : (i : ℕ) → found ≡ At i → i < k → test i ≡ true → ((j : ℕ) → j < k → test j ≡ true → j ≡ i) → Places test k found

@@ -1,4 +1,5 @@
--- Lemmas about what the table of controls has after all nets and all one-sided drivers are added, before useful controls are marked.
+-- Lemmas about what the table of controls has after all nets and all one-sided drivers are added, before
+-- useful controls are marked. A control is useful if it is safe alone and enables a tested driver.
 use Rattle.std.proofs.Common.{◌≡◌, ℕ, zero, suc, ◌<◌, ◌≤◌, ◌==◌, Bool, true, false, not, ◌&&◌, ◌||◌, List, [], ◌∷◌, ◌++◌, map, length, Option, Some, None, refl, sym, ◌∙◌, ap, subst, arith, cond}
 use Rattle.std.specs.Prelude.{slice_get, option_map, option_and_then, filter}
 use Rattle.std.specs.List.{list_any, list_all, range_with_len}

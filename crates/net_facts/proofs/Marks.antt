@@ -1,4 +1,5 @@
--- Lemmas about what the table of controls has after the useful controls are marked.
+-- Lemmas about what the table of controls has after the useful controls are marked. A control is useful if it
+-- is safe alone and enables a tested driver.
 use Rattle.std.proofs.Common.{◌≡◌, Bool, true, false, ◌||◌, List, [], ◌∷◌, map, length, Option, Some, None, refl, sym, ◌∙◌, ap}
 use Rattle.std.specs.Prelude.{option_map, filter, fold}
 use Rattle.std.specs.List.{list_any}

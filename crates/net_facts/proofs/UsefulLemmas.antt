@@ -1,4 +1,5 @@
--- Lemmas about the list of the useful controls, which is in control order.
+-- Lemmas about the list of the useful controls, which is in control order. A control is useful if it is safe
+-- alone and enables a tested driver.
 use Rattle.std.proofs.Common.{◌≡◌, ℕ, ◌+◌, ◌<◌, ◌≤◌, Bool, List, [], ◌∷◌, ◌++◌, map, length, take, get_or, Option, Some, refl, sym, ◌∙◌, ap, subst, arith, inl, inr, cond}
 use Rattle.std.specs.Prelude.{slice_get, slice_index_or, filter, option_and_then, All}
 use Rattle.std.specs.List.{flat_map, enumerate_from, range_with_len}

@@ -22,7 +22,7 @@ update_at i f [] = []
 update_at zero f (x ∷ xs) = f x ∷ xs
 update_at (suc i) f (x ∷ xs) = x ∷ update_at i f xs
 
--- the table with the item of the cell changed by `f`
+-- the table with the item of the cell changed by `f`, or the table itself if it has no such cell
 abbrev pub at_control : {X : Type 0} → Ctl → (X → X) → List (List X) → List (List X)
 at_control c f rows = update_at c.part (update_at c.cell f) rows
 

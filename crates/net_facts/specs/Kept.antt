@@ -70,7 +70,8 @@ net_class_of board net =
           (pin_class_of board net) (range_with_len 0 (length net.pins));
     }
 
--- the nets with a driver of a control, whether the control is safe alone, and whether it is useful
+-- The nets with a driver of a control, whether the control is safe alone, and whether it is useful. A control
+-- is useful if it is safe alone and enables a tested driver.
 abbrev pub control_class_of : RawBoard → Ctl → ControlClass
 control_class_of board c = record { nets = driven_nets board c; safe = is_safe_alone board c; useful = is_useful board c }
 

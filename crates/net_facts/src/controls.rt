@@ -1,5 +1,6 @@
-// The table of controls. For each control, it has the nets on which the control has drivers, and says whether the
-// control is safe alone and whether it is useful.
+// The table of controls. For each control, it has the nets on which the control has drivers, and says whether
+// the control is safe alone and whether it is useful. A control is useful if it is safe alone and enables a
+// tested driver.
 ghost use Rattle.std.specs.Prelude.{◌≡◌, ◌<◌, ◌≤◌, length, fold, map, OnOk, IfOk};
 ghost use Rattle.board_defs.specs.Limits.{most_bits, most_nets};
 ghost use Rattle.board_defs.specs.Pins.{cell_count, described};
@@ -26,6 +27,7 @@ fn is_last(nets: &[u32], net: u32) -> bool
 
 /// Records in `row` that its control has one more driver, on net number `net`. Marks the control as unsafe if it now
 /// has two drivers on this net, or if `closed` is true. `closed` says that no control may enable a driver of this net.
+/// Drivers are added in net order, so only the last net in the row can be `net`.
 fn add(row: &mut ControlClass, net: u32, closed: bool) -> Result<(), AllocError>
     ensures { OnOk result (row.new ≡ with_one_driver net closed row.old) }
 {

@@ -2,9 +2,10 @@
 //!
 //! [`board_facts`] returns these facts for a board:
 //!
+//! - for each net: the facts that do not depend on settings, such as its pull and whether it is guarded;
 //! - for each net: whether it is covered, the reason if it is not, and the ways in which its tested drivers are
 //!   enabled;
-//! - for each pin: whether it is a tested driver or a tested receiver;
+//! - for each pin: whether it is a driver or a receiver, and in which of these roles it is tested;
 //! - for each control: the nets with its drivers, whether it is safe alone, and whether it is useful;
 //! - for each control: the nets that it shares with another control. Two controls that are safe alone can be unsafe
 //!   together only if they share a net.

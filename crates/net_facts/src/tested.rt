@@ -31,7 +31,8 @@ pub fn is_safe(rows: &[Vec<ControlClass>], c: Ctl) -> bool
     }
 }
 
-/// Returns whether the table has the control and says that it is useful.
+/// Returns whether the table has the control and says that it is useful. A control is useful if it is safe
+/// alone and enables a tested driver.
 pub fn is_useful(rows: &[Vec<ControlClass>], c: Ctl) -> bool
     ensures { result ≡ useful_in (table rows.now) c }
 {
@@ -78,7 +79,7 @@ fn enables_at(rows: &[Vec<ControlClass>], pins: &[PinFacts], place: usize) -> bo
     can_enable(rows, drive_of(pins, place))
 }
 
-/// Returns the places of the receivers of a net.
+/// Returns the place of the net's receiver if it has just one. Otherwise, returns whether it has none or several.
 fn readers(pins: &[PinFacts]) -> Found
     ensures { result ≡ receiver_places pins.now }
 {
@@ -89,7 +90,8 @@ fn readers(pins: &[PinFacts]) -> Found
     found
 }
 
-/// Returns the places of the net's drivers that some safe setting enables.
+/// Returns the place of the driver that some safe setting enables, if the net has just one such driver. Otherwise,
+/// returns whether it has none or several.
 fn enablers(rows: &[Vec<ControlClass>], pins: &[PinFacts]) -> Found
     ensures { result ≡ enablers_of (table rows.now) pins.now }
 {

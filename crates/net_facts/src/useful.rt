@@ -1,4 +1,4 @@
-// Finds the useful controls.
+// Finds the useful controls. A control is useful if it is safe alone and enables a tested driver.
 ghost use Rattle.std.specs.Prelude.{◌≡◌, ◌++◌, filter, IfOk, OnOk};
 ghost use Rattle.board_defs.specs.Passes.{all_cells, cells_of};
 ghost use Rattle.net_facts.specs.Cells.{table};

@@ -1,4 +1,6 @@
--- The driver that a setting enables on a net, and the driver by which a setting observes a net.
+-- The driver that a setting enables on a net, and the driver by which a setting observes a net. A net is
+-- guarded if it carries a supply, or has a pin of a test access port, a pin that compliance patterns name, or
+-- a dark pin.
 use Rattle.std.specs.Prelude.{ℕ, ◌==◌, Bool, true, not, cond, find, List, [], Option, Some, None, option_and_then, slice_index_or}
 use Rattle.std.specs.List.{list_any}
 use Rattle.board_defs.specs.declared.board.Ctl.{Ctl}
@@ -20,8 +22,8 @@ enabled_in setting drivers = find (λ d. is_driver_on setting d.ctl) drivers
 abbrev pub is_read_beside : List ReaderCell → NetDriver → Bool
 is_read_beside readers d = list_any (λ r. not (r.place == d.place)) readers
 
--- The driver by which a setting observes a net: the first driver that the setting enables. None if the setting enables no driver, or if
--- no other pin of the net has a compared cell.
+-- The driver by which a safe setting observes a net: the driver that the setting enables. None if the setting
+-- enables no driver, or if no other pin of the net has a compared cell.
 abbrev pub observing_of : Enabling → List NetDriver → List ReaderCell → Option NetDriver
 observing_of setting drivers readers = option_and_then (λ d. cond (is_read_beside readers d) (Some d) None) (enabled_in setting drivers)
 
@@ -38,6 +40,6 @@ readers_on nets n = slice_index_or nets.readers n []
 abbrev pub enabled_on : NetTables → Enabling → ℕ → Option NetDriver
 enabled_on nets setting n = enabled_in setting (drivers_on nets n)
 
--- the driver by which the setting observes net n, or None if the setting does not observe the net
+-- the driver by which a safe setting observes net n, or None if the setting does not observe the net
 abbrev pub observer_on : NetTables → Enabling → ℕ → Option NetDriver
 observer_on nets setting n = observing_of setting (drivers_on nets n) (readers_on nets n)

@@ -1,5 +1,7 @@
--- The cells that drive and read each net. A compared cell is a boundary cell that has an INPUT, CLOCK or BIDIR entry for the port bit of
--- a receiver. A test compares the bit that such a cell captures.
+-- The cells that drive and read each net. A compared cell is a boundary cell that has an INPUT, CLOCK or
+-- BIDIR entry for the port bit of a receiver. A test compares the bit that such a cell captures. A net is
+-- guarded if it carries a supply, or has a pin of a test access port, a pin that compliance patterns name, or
+-- a dark pin.
 use Rattle.std.specs.Prelude.{ℕ, suc, ◌+◌, cond, List, [], ◌∷◌, ◌++◌, map, filter, Option, Some, None, option_map}
 use Rattle.board_defs.specs.declared.device.Cell.{Cell}
 use Rattle.board_defs.specs.declared.device.RawDevice.{RawDevice}
@@ -53,7 +55,8 @@ drivers_of board net = cond (guarded board net) [] (drivers_of_pins board net.pi
 abbrev pub reader_cell : RawBoard → ℕ → ℕ → Cell → ReaderCell
 reader_cell board part place cell = record { place = place; position = first_position board part + cell.num }
 
--- the compared cells of the port bit at `at`, which belongs to this device; `place` is the place of its pin in the net
+-- The cells with an INPUT, CLOCK or BIDIR entry for the port bit at `at` of this device, or no cells without
+-- a device. `place` is the place of the bit's pin in the net.
 abbrev pub readers_in : RawBoard → ℕ → PinAt → Option RawDevice → List ReaderCell
 readers_in board place at None = []
 readers_in board place at (Some device) = map (reader_cell board at.part place) (filter (reads_bit at.bit) device.cells)

@@ -1,4 +1,5 @@
--- The tables that btest keeps for the pins of a board.
+-- The tables that btest keeps for the pins of a board. A net is guarded if it carries a supply, or has a pin
+-- of a test access port, a pin that compliance patterns name, or a dark pin.
 use Rattle.std.specs.Prelude.{◌≡◌, map}
 use Rattle.board_defs.specs.declared.board.RawBoard.{RawBoard}
 use Rattle.board_defs.specs.Pins.{guarded}

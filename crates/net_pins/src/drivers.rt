@@ -1,4 +1,5 @@
-// Collects the drivers of each net. Leaves out the drivers of guarded nets.
+// Collects the drivers of each net. Leaves out the drivers of guarded nets. A net is guarded if it carries a
+// supply, or has a pin of a test access port, a pin that compliance patterns name, or a dark pin.
 ghost use Rattle.std.specs.Prelude.{◌≡◌, ◌≤◌, length, map, IfOk, All};
 ghost use Rattle.board_defs.specs.Limits.{most_pins};
 ghost use Rattle.net_pins.specs.NetCells.{all_drivers, drivers_of};

@@ -1,4 +1,5 @@
-// Finds the guarded nets from the entries of their pins.
+// Finds the guarded nets from the entries of their pins. A net is guarded if it carries a supply, or has a
+// pin of a test access port, a pin that compliance patterns name, or a dark pin.
 ghost use Rattle.std.specs.Prelude.{◌≡◌, map, IfOk};
 ghost use Rattle.board_defs.specs.Pins.{guarded};
 ghost use Rattle.port_entries.specs.Entries.{AreEntries};

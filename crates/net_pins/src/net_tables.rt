@@ -1,4 +1,5 @@
-// The drivers and the compared cells of each net, and questions about them.
+// The drivers and the compared cells of each net, and questions about them. A net is guarded if it carries a
+// supply, or has a pin of a test access port, a pin that compliance patterns name, or a dark pin.
 ghost use Rattle.std.specs.Prelude.{◌≡◌, [], if◌then◌else◌, Some, None, slice_index_or, IfOk};
 ghost use Rattle.board_defs.specs.Settings.{holds};
 ghost use Rattle.net_pins.specs.Enabled.{drivers_on, enabled_in, enabled_on, is_read_beside, observer_on, readers_on};
@@ -90,9 +91,9 @@ impl NetTables {
         enabled(self.drivers(net), setting)
     }
 
-    /// Returns the driver by which a setting observes a net. This is the first driver of the net, in pin order, that
-    /// the setting enables. Returns `None` if the setting enables no driver of the net, if no other pin of the net has
-    /// a compared cell, or if the net is guarded.
+    /// Returns the driver by which a safe setting observes a net. This is the first driver of the net, in pin
+    /// order, that the setting enables. Returns `None` if the setting enables no driver of the net, if no
+    /// other pin of the net has a compared cell, or if the net is guarded.
     pub fn observer(&self, setting: &Setting, net: u32) -> Option<NetDriver>
         ensures { result ≡ observer_on self.now (holds setting.now) net }
     {

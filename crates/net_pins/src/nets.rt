@@ -1,5 +1,7 @@
-// The cells that drive and read each net. A compared cell is a boundary cell that has an INPUT, CLOCK or BIDIR entry
-// for the port bit of a receiver. A test compares the bit that such a cell captures.
+// The cells that drive and read each net. A compared cell is a boundary cell that has an INPUT, CLOCK or
+// BIDIR entry for the port bit of a receiver. A test compares the bit that such a cell captures. A net is
+// guarded if it carries a supply, or has a pin of a test access port, a pin that compliance patterns name, or
+// a dark pin.
 ghost use Rattle.std.specs.Prelude.{◌≡◌, ◌<◌, ◌≤◌, ◌++◌, length, map, filter, Some, IfOk, OnOk, All};
 ghost use Rattle.board_defs.specs.Limits.{most_pins};
 ghost use Rattle.board_defs.specs.DeviceRules.{is_receiving};
@@ -154,7 +156,8 @@ fn push_readers(
     Ok(())
 }
 
-// Returns whether the mode of the port bit lets the part receive from it.
+// Returns whether the mode of the port bit lets the part receive from it. Returns false if there is no such
+// port bit.
 fn may_receive(raw: &RawBoard, at: PinAt) -> bool
     ensures { result ≡ receives_by (bit_at raw.now at) }
 {

@@ -11,8 +11,8 @@ use Rattle.response_log.specs.LogRows.{LogAnswer, NumberedLine, line_with, log_t
 use Rattle.response_log.specs.Kept.{text_at}
 use Rattle.response_log.proofs.KeptLemmas.{put_behind}
 
--- What `found` lines give if none of them has an offense and their rows are `log`: the log, or `Missing` if there are fewer than `rows`
--- lines.
+-- The answer for `found` lines that have no offense and whose rows are `log`. It is the log, or `Missing` if
+-- there are fewer than `rows` lines.
 abbrev pub counted : ℕ → ℕ → List (List Bool) → LogAnswer
 counted rows found log = cond (nat_lt found rows) (Err (Missing found)) (Ok log)
 

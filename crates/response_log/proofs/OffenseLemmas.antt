@@ -100,8 +100,8 @@ module _ (len : ℕ) (line : NumberedLine) where
   told_digit (Some (Extra n)) says long no_row = absurd says
   told_digit (Some (Memory e)) says long no_row = absurd says
 
--- `rows_after` reports a fault for some rows and the lines after them. The fault is the first offense of these rows and lines, if `rows`
--- rows are expected.
+-- Suppose that `rows_after` reports a fault for some rows and the lines after them. The lemmas of this module
+-- show that the fault is the first offense of these rows and lines, if `rows` rows are expected.
 module _ (rows len : ℕ) where
   abbrev IsFirst : List NumberedLine → LogFault → Type 0
   IsFirst lines fault = IsFirstOffense rows len lines fault

@@ -10,7 +10,7 @@ use Rattle.response_log.specs.LogRows.{NumberedLine, bits_of_line, row_lines, lo
 abbrev pub IsLogRow : ℕ → NumberedLine → Type 0
 IsLogRow len line = (bits : List Bool) × (bits_of_line len line ≡ Some bits)
 
--- the line is one word with as many digits as `len` bits need
+-- the line is one word, and the word has one byte for each digit that `len` bits need
 abbrev pub HasDigitCount : ℕ → NumberedLine → Type 0
 HasDigitCount len line = (word : Word) × (line.words ≡ word ∷ []) × (length word ≡ digit_count len)
 
@@ -43,12 +43,12 @@ FirstOffenseIsTold =
     (text : List ℕ) (rows len : ℕ) (fault : LogFault)
     → (log_rows text rows len ≡ Err fault) ↔ IsFirstOffense rows len (row_lines text) fault
 
--- a text has exactly one first offense
+-- the text has exactly one first offense, if `rows` rows of `len` bits are expected
 pub record HasOneOffense (text : List ℕ) (rows len : ℕ) : Type 0 where
   pub fault : LogFault
   pub is : IsFirstOffense rows len (row_lines text) fault
   pub one : (other : LogFault) → IsFirstOffense rows len (row_lines text) other → other ≡ fault
 
--- a text has exactly one first offense if and only if it is not a log
+-- whatever rows are expected, a text has exactly one first offense if and only if it is not a log of such rows
 abbrev pub OneOffenseOrLog : Type 0
 OneOffenseOrLog = (text : List ℕ) (rows len : ℕ) → HasOneOffense text rows len ↔ ((log : List (List Bool)) → ¬ IsLogOf text rows len log)

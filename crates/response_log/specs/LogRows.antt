@@ -46,8 +46,9 @@ word_fault len n None = Some (Length n)
 word_fault len n (Some word) =
     if length word == digit_count len then (if is_some (field_bits len word) then None else Some (Digit n)) else Some (Length n)
 
--- The offense of a line that must be a row of `len` bits. It is `Length` if the line is not one word with as many digits as the bits need.
--- It is `Digit` if the length is right, but a byte is not a digit, or a bit above the `len` bits is 1.
+-- The offense of a line that must be a row of `len` bits, or None if it is such a row. It is `Length` if the line is not one word, or if the
+-- word does not have one byte for each digit that the bits need. It is `Digit` if the length is right, but a byte is not a digit, or a bit
+-- above the `len` bits is 1.
 abbrev pub row_fault : ℕ → NumberedLine → Option LogFault
 row_fault len line = word_fault len line.number (only_word line.words)
 

@@ -18,9 +18,10 @@ use text_lines::{first_line, next_word};
 
 /// Reads a log of `rows` rows with `len` bits each from any bytes. There must be fewer than 2^32 bytes. The error is
 /// the fault of the first line with a fault. Each of the first `rows` lines with words must be a row. Such a line gives
-/// `Length` if it is not one word with as many digits as the bits need. It gives `Digit` if its length is right, but a
-/// byte is not a digit or a bit above the `len` bits is 1. A line with words gives `Extra` if it comes after the last
-/// expected row. If no line has a fault but there are fewer than `rows` rows, the error is `Missing`.
+/// `Length` if it is not one word, or if the word does not have one byte for each digit that the bits need. It gives
+/// `Digit` if its length is right, but a byte is not a digit or a bit above the `len` bits is 1. A line with words gives
+/// `Extra` if it comes after the last expected row. If no line has a fault but there are fewer than `rows` rows, the
+/// error is `Missing`.
 ///
 /// The log takes one byte of memory for each byte of the text.
 pub fn log(alloc: Global, bytes: &[u8], rows: u64, len: u32) -> Result<Log, LogFault>

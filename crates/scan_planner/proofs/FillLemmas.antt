@@ -176,8 +176,8 @@ module _ (board : RawBoard) (rules : IsBoard board) (plan : PlanTables) (p : IsP
     are : ArePassCells board plan.steady pass cells
     are = let t = p.tables.cells x pass stands in subst (λ (v : PassCells). ArePassCells board plan.steady pass v) t.1 t.2
 
-    -- The cells of the drivers by which the pass observes nets. First come the steady cells, which belong to such drivers in every pass,
-    -- and then the other cells of this pass.
+    -- The cells of the drivers by which the pass observes nets. First come the steady cells, which belong to
+    -- such drivers in every pass, and then the pass's other driver cells.
     abbrev all : List DriverCell
     all = plan.steady ++ cells.drivers
 

@@ -1,4 +1,5 @@
--- Lemmas about the compared cells of a row. These are the cells of receivers on the nets that the pass observes.
+-- Lemmas about the compared cells of a row. These are the cells of receivers on the nets that the pass
+-- observes, except the cells on the drivers' own pins.
 use Rattle.std.proofs.Common.{◌≡◌, ℕ, ◌+◌, ◌==◌, Bool, true, false, not, cond, ◌&&◌, List, [], ◌∷◌, Option, Some, None, is_some, unwrap_or, get_or, set, refl, sym, ap, ◌∙◌, subst, arith, ◌⊎◌, inl, inr}
 use Rattle.std.specs.Prelude.{slice_get}
 use Rattle.std.specs.List.{flat_map}

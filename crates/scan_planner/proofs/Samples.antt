@@ -1,5 +1,5 @@
--- Samples of the rows that all passes share, for a bus with two drivers and a receiver. The bus has one steady driver, which observes it in
--- every pass, or none. The expected values are worked out by hand.
+-- Samples of the rows that all passes share, for a bus with two drivers and a receiver. The plan has one
+-- steady driver, by which every pass observes the bus, or none. The expected values are worked out by hand.
 use Rattle.std.proofs.Common.{◌≡◌, Bool, true, false, List, [], ◌∷◌, map, replicate, refl}
 use Rattle.bt_bits.specs.Rows.{BitRow}
 use Rattle.tap_defs.specs.declared.scan.StoredRows.{StoredRows}

@@ -25,6 +25,6 @@ pub record PlansUseful (board : RawBoard) : Type 0 where
   pub useful : (c : Ctl) → is_useful board c ≡ true → controls_some board c ≡ true
   pub passes : (passes : List (List Ctl)) → AreSafe board passes → AreUseful board passes → ArePlannable board passes
 
--- `PlansUseful` holds for every board
+-- every board that keeps the rules of boards has the property `PlansUseful`
 abbrev pub UsefulPlanned : Type 0
 UsefulPlanned = (board : RawBoard) → IsBoard board → PlansUseful board

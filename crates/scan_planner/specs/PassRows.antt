@@ -32,8 +32,9 @@ pub record KeepRoom (old new : StackedRows) : Type 0 where
   pub expected : new.expected.room ≡ old.expected.room
   pub mask : new.mask.room ≡ old.mask.room
 
--- Row `j` of the bits that all passes shift in. It is the quiet row, except that the cell of each steady driver has bit `j` of the code of
--- the driver's net. The quiet row disables every driver that has a control. A steady driver observes its net in every pass.
+-- Row `j` of the bits that all passes shift in. It is the quiet row, except that the cell of each steady
+-- driver has bit `j` of the code of the driver's net. The quiet row disables every driver that has a control.
+-- Every pass observes the net of a steady driver by this driver.
 abbrev pub steady_shifted : PlanTables → ℕ → List Bool
 steady_shifted plan j = assigned (λ d. d.position) (code_bit_of_driver plan.codes j) plan.quiet.bits plan.steady
 

@@ -33,8 +33,8 @@ fn fill_codes(codes: &StoredRows, rows: &mut ScanRows) -> Shape
 }
 
 impl<'a> BoardPlan<'a> {
-    /// Fills `tdi` with the quiet row, which disables every driver that has a control. `tdi` must have room for a scan
-    /// of data.
+    /// Fills `tdi` with the quiet row, which disables every driver that has a control. `tdi` must have room
+    /// for a data scan.
     pub fn shift_quiet(&self, tdi: &mut Row)
         requires { data_bits self.now.board ≤ tdi.old.room }
         ensures bits { (scan : RowScan) → scan.now ≡ quiet_row
@@ -46,8 +46,8 @@ impl<'a> BoardPlan<'a> {
         tdi.copy_row(&tables.quiet);
     }
 
-    /// Fills both rows with zeros. These are the expected bits and the mask of the scan after the quiet row, since that
-    /// scan compares nothing. Each row must have room for a scan of data.
+    /// Fills both rows with zeros. These are the expected bits and the mask of the scan after the quiet row,
+    /// since that scan compares nothing. Each row must have room for a data scan.
     pub fn compare_nothing(&self, rows: &mut ComparedRows)
         requires { BothHaveRoom (data_bits self.now.board) rows.old }
         ensures bits { (scan : RowScan) → scan.before ≡ quiet_row
@@ -60,8 +60,8 @@ impl<'a> BoardPlan<'a> {
         rows.mask.clear(len);
     }
 
-    // Fills the rows with the second scan, which shifts in the quiet row and compares nothing. Returns its shape. Each
-    // row must have room for a scan of instructions and for a scan of data.
+    // Fills the rows with the second scan, which shifts in the quiet row and compares nothing. Returns its
+    // shape. Each row must have room for an instruction scan and for a data scan.
     fn fill_quiet(&self, rows: &mut ScanRows) -> Shape
         requires { EachHasRoom (IsRoom self.now.board) rows.old }
         ensures filled { FillsRows self.now 1 result rows.new }
@@ -79,9 +79,9 @@ impl<'a> BoardPlan<'a> {
         }
     }
 
-    // Fills the rows with scan `k`, which must be one of the first three scans, and returns its shape. These scans
-    // shift in the preload codes, the quiet row and the EXTEST codes, in this order. Each row must have room for a scan
-    // of instructions and for a scan of data.
+    // Fills the rows with scan `k`, which must be one of the first three scans, and returns its shape. These
+    // scans shift in the preload codes, the quiet row and the EXTEST codes, in this order. Each row must have
+    // room for an instruction scan and for a data scan.
     fn fill_early(&self, k: u64, rows: &mut ScanRows) -> Shape
         requires early { k < 3 }
         requires room { EachHasRoom (IsRoom self.now.board) rows.old }
@@ -99,8 +99,9 @@ impl<'a> BoardPlan<'a> {
         }
     }
 
-    /// Fills the rows with scan `k` of the test, counted from 0, and returns its shape. `k` must be below the number of
-    /// scans, and each row must have room for a scan of instructions and for a scan of data. Allocates nothing.
+    /// Fills the rows with scan `k` of the test, counted from 0, and returns its shape. `k` must be below the
+    /// number of scans, and each row must have room for an instruction scan and for a data scan. Allocates
+    /// nothing.
     pub fn fill(&self, k: u64, rows: &mut ScanRows) -> Shape
         requires scan { k < scan_count self.now.plan }
         requires room { EachHasRoom (IsRoom self.now.board) rows.old }
@@ -119,8 +120,8 @@ impl<'a> BoardPlan<'a> {
 }
 
 impl<'a> PassOfPlan<'a> {
-    /// Fills `tdi` with the bits that row `j` of the pass shifts in. `j` must be below the number of rows of a pass, and
-    /// `tdi` must have room for a scan of data. Allocates nothing.
+    /// Fills `tdi` with the bits that row `j` of the pass shifts in. `j` must be below the number of rows of
+    /// a pass, and `tdi` must have room for a data scan. Allocates nothing.
     pub fn fill_shifted(&self, j: u32, tdi: &mut Row)
         requires row { j < self.now.test.plan.width }
         requires room { data_bits self.now.test.board ≤ tdi.old.room }
@@ -136,8 +137,9 @@ impl<'a> PassOfPlan<'a> {
         self.walk(&mut shifted, &mut NoRows, &mut NoRows);
     }
 
-    /// Fills two rows with the expected bits and the mask of row `j` of the pass, which the next scan compares. `j` must
-    /// be below the number of rows of a pass, and each row must have room for a scan of data. Allocates nothing.
+    /// Fills two rows with the expected bits and the mask of row `j` of the pass, which the next scan
+    /// compares. `j` must be below the number of rows of a pass, and each row must have room for a data scan.
+    /// Allocates nothing.
     pub fn fill_compared(&self, j: u32, tdo: &mut Row, mask: &mut Row)
         requires row { j < self.now.test.plan.width }
         requires tdo_room { data_bits self.now.test.board ≤ tdo.old.room }
@@ -150,8 +152,8 @@ impl<'a> PassOfPlan<'a> {
         self.compare_row(j, &mut ComparedRows { tdo, mask });
     }
 
-    // Fills the rows with the expected bits and the mask of row `j` of the pass. `j` must be below the number of rows
-    // of a pass, and each row must have room for a scan of data.
+    // Fills the rows with the expected bits and the mask of row `j` of the pass. `j` must be below the number
+    // of rows of a pass, and each row must have room for a data scan.
     fn compare_row(&self, j: u32, rows: &mut ComparedRows)
         requires row { j < self.now.test.plan.width }
         requires room { BothHaveRoom (data_bits self.now.test.board) rows.old }
@@ -173,8 +175,8 @@ impl<'a> PassOfPlan<'a> {
         self.walk(&mut NoRows, &mut expected, &mut marks);
     }
 
-    // Fills `tdi` with row `j` of the pass, or with the quiet row if the pass has no row `j`. `tdi` must have room for
-    // a scan of data.
+    // Fills `tdi` with row `j` of the pass, or with the quiet row if the pass has no row `j`. `tdi` must have
+    // room for a data scan.
     fn shift(&self, j: u32, tdi: &mut Row)
         requires { data_bits self.now.test.board ≤ tdi.old.room }
         ensures bits { tdi.new.bits ≡ tdi_bits (scan_bits_of self.now j) }
@@ -187,9 +189,9 @@ impl<'a> PassOfPlan<'a> {
         }
     }
 
-    // Fills the rows with the expected bits and the mask of row `j - 1`, or with zeros if `j` is 0. Returns whether any
-    // bit is compared. `j` must be at most the number of rows of a pass, and each row must have room for a scan of
-    // data.
+    // Fills the rows with the expected bits and the mask of row `j - 1`, or with zeros if `j` is 0. Returns
+    // whether any bit is compared. `j` must be at most the number of rows of a pass, and each row must have
+    // room for a data scan.
     fn compare_before(&self, j: u32, rows: &mut ComparedRows) -> bool
         requires row { j ≤ self.now.test.plan.width }
         requires room { BothHaveRoom (data_bits self.now.test.board) rows.old }
@@ -206,8 +208,8 @@ impl<'a> PassOfPlan<'a> {
         }
     }
 
-    // Fills the rows with scan `j` of the pass, and returns its shape. `j` must be at most the number of rows of a
-    // pass. Each row must have room for a scan of instructions and for a scan of data.
+    // Fills the rows with scan `j` of the pass, and returns its shape. `j` must be at most the number of rows
+    // of a pass. Each row must have room for an instruction scan and for a data scan.
     fn fill(&self, j: u32, rows: &mut ScanRows) -> Shape
         requires row { j ≤ self.now.test.plan.width }
         requires room { EachHasRoom (IsRoom self.now.test.board) rows.old }

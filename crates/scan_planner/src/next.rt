@@ -36,8 +36,8 @@ impl<'a, 'k> Model for PassWithRows<'a, 'k> {
 }
 
 impl<'a, 'k> PassWithRows<'a, 'k> {
-    // Fills `tdi` with row `j` of the pass, or with the quiet row if the pass has no row `j`. The quiet row disables
-    // every driver that has a control. `tdi` must have room for a scan of data.
+    // Fills `tdi` with row `j` of the pass, or with the quiet row if the pass has no row `j`. The quiet row
+    // disables every driver that has a control. `tdi` must have room for a data scan.
     fn shift(&self, j: u32, tdi: &mut Row)
         requires { data_bits self.now.test.board ≤ tdi.old.room }
         ensures bits { tdi.new.bits ≡ tdi_bits (scan_bits_of self.now j) }
@@ -51,8 +51,8 @@ impl<'a, 'k> PassWithRows<'a, 'k> {
         }
     }
 
-    // Fills `tdo` with the expected bits of row `j`, which must be a row of the pass. `tdo` must have room for a scan
-    // of data.
+    // Fills `tdo` with the expected bits of row `j`, which must be a row of the pass. `tdo` must have room
+    // for a data scan.
     fn expect(&self, j: u32, tdo: &mut Row)
         requires row { j < self.now.test.plan.width }
         requires room { data_bits self.now.test.board ≤ tdo.old.room }
@@ -63,7 +63,8 @@ impl<'a, 'k> PassWithRows<'a, 'k> {
         tdo.copy_stacked(&self.rows.expected, j);
     }
 
-    // Fills `mask` with the mask of row `j`, which must be a row of the pass. `mask` must have room for a scan of data.
+    // Fills `mask` with the mask of row `j`, which must be a row of the pass. `mask` must have room for a
+    // data scan.
     fn mark(&self, j: u32, mask: &mut Row)
         requires row { j < self.now.test.plan.width }
         requires room { data_bits self.now.test.board ≤ mask.old.room }
@@ -73,10 +74,11 @@ impl<'a, 'k> PassWithRows<'a, 'k> {
         mask.copy_row(&self.rows.mask);
     }
 
-    // Fills the rows with the expected bits and the mask of row `j - 1`, or with zeros if `j` is 0. Returns whether any
-    // bit is compared. All rows of a pass have the same mask. So if `j` is above 1, the call leaves the mask unchanged
-    // and returns `told`. In this case, `rows` must already have the mask, and `told` must say whether some bit of it
-    // is 1. `j` must be at most the number of rows of a pass, and each row must have room for a scan of data.
+    // Fills the rows with the expected bits and the mask of row `j - 1`, or with zeros if `j` is 0. Returns
+    // whether any bit is compared. All rows of a pass have the same mask. So if `j` is above 1, the call
+    // leaves the mask unchanged and returns `told`. In this case, `rows` must already have the mask, and
+    // `told` must say whether some bit of it is 1. `j` must be at most the number of rows of a pass, and each
+    // row must have room for a data scan.
     fn compare_before(&self, j: u32, told: bool, rows: &mut ComparedRows) -> bool
         requires row { j ≤ self.now.test.plan.width }
         requires stands { 1 < j
@@ -99,9 +101,10 @@ impl<'a, 'k> PassWithRows<'a, 'k> {
         rows.mask.has_one()
     }
 
-    // Fills the rows with scan `j` of the pass, and returns its shape (whether it is an instruction scan, and whether
-    // it compares a bit). The rows must hold the previous scan of the test, and `before` must be its shape. `j` must be
-    // at most the number of rows of a pass. Each row must have room for a scan of instructions and for a scan of data.
+    // Fills the rows with scan `j` of the pass, and returns its shape (whether it is an instruction scan, and
+    // whether it compares a bit). The rows must hold the previous scan of the test, and `before` must be its
+    // shape. `j` must be at most the number of rows of a pass. Each row must have room for an instruction
+    // scan and for a data scan.
     fn fill(&self, j: u32, before: Shape, rows: &mut ScanRows) -> Shape
         requires row { j ≤ self.now.test.plan.width }
         requires before { FillsRows self.now.test
@@ -128,10 +131,11 @@ impl<'a, 'k> PassWithRows<'a, 'k> {
 }
 
 impl<'a> BoardPlan<'a> {
-    /// Fills the rows with scan `k + 1`, which must be a scan of the test, and returns its shape. The rows must hold
-    /// scan `k`, and `before` must be its shape. Each row must have room for a scan of instructions and for a scan of
-    /// data. If scan `k + 1` belongs to a pass, `kept` has the rows of that pass after the call. `kept` must have room
-    /// for a scan of data. If `kept` already has rows of a pass, they must be rows of this plan.
+    /// Fills the rows with scan `k + 1`, which must be a scan of the test, and returns its shape. The rows
+    /// must hold scan `k`, and `before` must be its shape. Each row must have room for an instruction scan
+    /// and for a data scan. If scan `k + 1` belongs to a pass, `kept` has the rows of that pass after the
+    /// call. `kept` must have room for a data scan. If `kept` already has rows of a pass, they must be rows
+    /// of this plan.
     pub fn fill_next(
         &self,
         k: u64,

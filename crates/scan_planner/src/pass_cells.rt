@@ -114,9 +114,10 @@ impl PassControls<'_> {
         }
     }
 
-    // Writes the codes of the nets that the pass observes by its own drivers, and marks the cells that are compared.
-    // The pass's own drivers are the drivers by which it observes nets, except the steady drivers. The steady drivers
-    // observe their nets in every pass, so their codes are already in the rows that all passes share.
+    // Writes the codes of the nets that the pass observes by its own drivers, and marks the cells that are
+    // compared. The pass's own drivers are the drivers by which it observes nets, except the steady drivers.
+    // Every pass observes nets by the steady drivers, so the codes of these nets are already in the rows that
+    // all passes share.
     fn drive<S: CodeRows, E: CodeRows, M: CodeRows>(
         &self,
         shifted: &mut S,

@@ -45,7 +45,7 @@ impl StackedRows {
         Ok(rows)
     }
 
-    // Fills the rows with the rows that all passes of a plan share. There must be room for a scan of data.
+    // Fills the rows with the rows that all passes of a plan share. There must be room for a data scan.
     fn fill_common(&mut self, tables: &PlanTables)
         requires { HaveRoomOf (length tables.now.quiet.bits) self.old }
         ensures { AreCommonStacks tables.now self.new }
@@ -107,8 +107,8 @@ impl PassRows {
 }
 
 impl<'a> PassOfPlan<'a> {
-    // Fills the rows with the rows of the pass, starting from a copy of the rows that all passes share. The rows must
-    // have room for a scan of data.
+    // Fills the rows with the rows of the pass, starting from a copy of the rows that all passes share. The
+    // rows must have room for a data scan.
     fn fill_rows(&self, rows: &mut StackedRows)
         requires { HaveRoomOf (data_bits self.now.test.board) rows.old }
         ensures rows { ArePassRows self.now.test.board self.now.test.plan self.now.number rows.new }
@@ -123,8 +123,8 @@ impl<'a> PassOfPlan<'a> {
         self.walk(&mut rows.shifted, &mut rows.expected, &mut marks);
     }
 
-    /// Fills `kept` with the rows of the pass, unless it already has them. `kept` must have room for a scan of data. If
-    /// it already has rows of a pass, they must be rows of this plan.
+    /// Fills `kept` with the rows of the pass, unless it already has them. `kept` must have room for a data
+    /// scan. If it already has rows of a pass, they must be rows of this plan.
     pub fn keep_rows(&self, kept: &mut PassRows)
         requires { AreKept self.now.test.board self.now.test.plan kept.old }
         ensures kept { AreKept self.now.test.board self.now.test.plan kept.new }

@@ -63,7 +63,8 @@ impl Plan {
         code_at(self.tables.codes.as_slice(), net)
     }
 
-    /// Returns the driver that a pass enables on a net, if there is one. No pass enables two drivers of a net.
+    /// Returns the driver that a pass of the plan enables on an unguarded net, if there is one. No pass
+    /// enables two drivers of a net. Returns None for a guarded net.
     #[inline]
     pub fn driver(&self, pass: &Setting, net: u32) -> Option<NetDriver>
         ensures { result ≡ enabled_on self.now.nets (holds pass.now) net }

@@ -39,7 +39,7 @@ same_over : (f g : ℕ → List ℕ) → ((k : ℕ) → f k ≡ g k) → (ks : L
 same_over f g same [] = refl
 same_over f g same (k ∷ ks) = cons_path (same k) (same_over f g same ks)
 
--- One turn of the loop over the nets, for net `i`.
+-- One iteration of the loop over the nets, for net `i`.
 pub all_members_more : (nets labels : List ℕ) (count i n l : ℕ) (now new : List (List ℕ))
     → slice_get nets i ≡ Some n → slice_get labels i ≡ Some l →
     now ≡ map (members (take i nets) (take i labels)) (range_with_len 0 count) → new ≡ noted now (Some l) n →

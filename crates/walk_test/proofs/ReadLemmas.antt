@@ -47,7 +47,7 @@ first_most (row ∷ log) at = by_test (get_or row at false) (first_most log at)
 first_reads : (log : List (List Bool)) (at j : ℕ) → j < length log → first_one log at ≡ j → bit_in log j at ≡ true
 first_reads log at j less is = ap (λ (k : ℕ). bit_in log k at) (sym is) ∙ first_holds log at (omega (arith, less, is))
 
--- One turn of the loop over the nets, for net `i`.
+-- One iteration of the loop over the nets, for net `i`.
 pub compared_more : (len : ℕ) (nets : List NetCells) (i : ℕ) (net : NetCells) → i < length nets
     → net ≡ get_or nets i net
     → with_compared (compared_bits len (take i nets)) net ≡ compared_bits len (take (i + 1) nets)

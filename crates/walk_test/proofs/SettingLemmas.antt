@@ -154,7 +154,7 @@ nets_held board s (net ∷ nets) c =
 pub switching_is : (board : RawBoard) (c : Ctl) → holds (all_switching board board.nets) c ≡ switches_some board c
 switching_is board c = nets_held board [] board.nets c ∙ or-false (switches_some board c)
 
--- One turn of the loop over the nets, for net `n`.
+-- One iteration of the loop over the nets, for net `n`.
 pub net_more : (board : RawBoard) (nets : List Net) (n : ℕ) (net : Net) (old new : List Ctl)
     → nets ≡ board.nets → n < length nets → net ≡ get_or nets n net
     → old ≡ all_switching board (take n nets) →

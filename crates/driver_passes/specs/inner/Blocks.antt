@@ -1,4 +1,6 @@
--- Sets of places that are made of blocks. A block has the places of one word.
+-- Sets of places in the list of useful controls. Place `n` has bit `n % 64` of word `n / 64`. A set is a list
+-- of blocks, and each block has places that belong to one word. A control is useful if it is safe alone and
+-- enables a tested driver.
 use Rattle.std.specs.Prelude.{ℕ, Bool, List}
 use Rattle.std.specs.List.{list_any}
 use Rattle.driver_passes.specs.declared.blocks.Block.{Block}

@@ -1,5 +1,6 @@
--- A pass that is being made. One set has the places of the useful controls in the pass. The other set has the places of the useful controls
--- that can be added.
+-- A pass that is being made. One set has the places of the useful controls in the pass. The other set has the
+-- places of the useful controls that can be added. A control is useful if it is safe alone and enables a
+-- tested driver.
 use Rattle.std.specs.Prelude.{◌≡◌, ℕ, suc, ◌+◌, ◌/◌, ◌==◌, ◌&&◌, Bool, not, cond, List, [], ◌∷◌, length, Some, slice_get}
 use Rattle.std.specs.List.{list_any}
 use Rattle.board_defs.specs.declared.board.Ctl.{Ctl}

@@ -1,5 +1,6 @@
--- The pairs of nets for which a pass is needed. Two nets are paired if one safe setting enables a tested driver of each. A pass shows a net
--- if it enables a tested driver of the net.
+-- The pairs of nets for which a pass is needed. Two nets are paired if one safe setting enables a tested
+-- driver of each. A pass shows a net if it enables a tested driver of the net. A control is useful if it is
+-- safe alone and enables a tested driver.
 use Rattle.std.specs.Prelude.{◌≡◌, ◌≤◌, ◌<◌, ◌⊎◌, ◌+◌, ◌/◌, ℕ, Bool, true, not, ◌&&◌, List, drop, length, map, None}
 use Rattle.board_defs.specs.declared.board.Ctl.{Ctl}
 use Rattle.board_defs.specs.declared.board.RawBoard.{RawBoard}

@@ -1,5 +1,6 @@
--- The passes that are made so far, with the controls that they have and the nets that they show. A pass shows a net if it enables a
--- tested driver of the net.
+-- The passes that are made so far, with the controls that they have and the nets that they show. A pass shows
+-- a net if it enables a tested driver of the net. A control is useful if it is safe alone and enables a
+-- tested driver.
 use Rattle.std.specs.Prelude.{◌≡◌, ◌<◌, ◌+◌, ◌/◌, ℕ, Bool, true, List, drop, length, Some, slice_get, Contains}
 use Rattle.std.specs.List.{flat_map, list_any}
 use Rattle.board_defs.specs.declared.board.Ctl.{Ctl}

@@ -1,4 +1,5 @@
--- The useful controls that share each net with another control. Two controls share a net if each of them controls a driver of the net.
+-- The useful controls that share each net with another control. Two controls share a net if each of them
+-- controls a driver of the net. A control is useful if it is safe alone and enables a tested driver.
 use Rattle.std.specs.Prelude.{◌≡◌, ◌&&◌, ℕ, Bool, false, List, [], length, ltb, Some, slice_get, slice_index_or}
 use Rattle.std.specs.List.{list_any}
 use Rattle.board_defs.specs.declared.board.Ctl.{Ctl}

@@ -1,4 +1,5 @@
--- The nets that each useful control tests, that is, the nets with a tested driver of this control.
+-- The nets that each useful control tests, that is, the nets with a tested driver of this control. A control
+-- is useful if it is safe alone and enables a tested driver.
 use Rattle.std.specs.Prelude.{◌≡◌, ◌==◌, ◌&&◌, ◌||◌, ℕ, Bool, List, [], length, ltb, Some, slice_get, slice_index_or}
 use Rattle.std.specs.List.{list_any}
 use Rattle.board_defs.specs.declared.board.Ctl.{Ctl}

@@ -68,7 +68,8 @@ pub record AreOthers (board : RawBoard) (set : ControlSet) (nets : List ℕ) (ot
   pub drive : (c : Ctl) → passes c ≡ true → drives_some board nets c ≡ true
   pub all : (c : Ctl) → IsCell board c → drives_some board nets c ≡ true → has_control set c ≡ false → passes c ≡ true
 
--- the set is the set of the controls that satisfy some predicate
+-- `set` is a consistent set. Its marks are those of some predicate, and its list of members has each cell
+-- that satisfies the predicate.
 pub record IsSomeSet (board : RawBoard) (set : ControlSet) : Type 0 where
   pub passes : Ctl → Bool
   pub is_set : IsSet board passes set

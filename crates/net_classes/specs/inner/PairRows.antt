@@ -18,14 +18,14 @@ use Rattle.net_classes.specs.Pairs.{drivers_at, fits_at}
 abbrev pub owns_at : RawBoard → Ctl → ℕ → Bool
 owns_at board c n = list_any (λ d. is_by c (Some d)) (drivers_at board n)
 
--- Row 0 has a 1 for each covered net, and has room for all nets. Each cell of the board has a row number.
+-- Row 0 has a 1 for exactly the covered nets, and has room for all nets. Each cell of the board has a row number.
 pub record HasCovered (board : RawBoard) (pairs : PairRows) : Type 0 where
   pub some : 0 < length pairs.rows.items
   pub covered : AreRowBits (fits_at board AlwaysOn) (row_in pairs 0)
   pub room : length (row_in pairs 0) ≡ length board.nets / 64 + 1
   pub cells : (c : Ctl) → IsCell board c → is_some (item_of_cell (table pairs.numbers.items) c) ≡ true
 
--- the row of control `c` has a 1 for each net that some safe setting with `c` observes
+-- the row of control `c` has a 1 for exactly the nets that some safe setting with `c` observes
 pub record IsRowOf (board : RawBoard) (pairs : PairRows) (c : Ctl) : Type 0 where
   pub there : row_number pairs c < length pairs.rows.items
   pub bits : AreRowBits (fits_at board (By c)) (row_in pairs (row_number pairs c))
@@ -46,7 +46,8 @@ pub record AddsRow (board : RawBoard) (before after : PairRows) (c : Ctl) : Type
   pub own : IsRowOf board after c
   pub others : (d : Ctl) → same_ctl c d ≡ false → IsRowOf board before d → IsRowOf board after d
 
--- word `w` of the driver's row, or 0 if the driver is one-sided
+-- Word `w` of the driver's row, or 0 if the driver is one-sided. The row of an always-on driver is row 0, the
+-- row of the covered nets.
 abbrev pub drive_word : PairRows → Drive → ℕ → ℕ
 drive_word pairs AlwaysOn w = slice_index (row_in pairs 0) w
 drive_word pairs OneSided w = 0

@@ -1,5 +1,6 @@
--- Definitions that say whether a driver's control is a cell of the board, whether it is useful, and whether one safe setting enables a
--- driver of each of two lists.
+-- Definitions that say whether a driver's control is a cell of the board, whether it is useful, and whether
+-- one safe setting enables a driver of each of two lists. A control is useful if it is safe alone and enables
+-- a tested driver.
 use Rattle.std.specs.Prelude.{◌≡◌, Bool, true, List}
 use Rattle.std.specs.List.{list_any}
 use Rattle.board_defs.specs.declared.board.Ctl.{Ctl}

@@ -53,11 +53,11 @@ reads_at pins place = reads_in (slice_get pins place)
 abbrev pub enables_at_place : List (List ControlClass) → List PinFacts → ℕ → Bool
 enables_at_place rows pins place = may_be_enabled rows (drive_of pins place)
 
--- the places of the net's receivers
+-- the place of the net's receiver if it has just one; otherwise, whether it has none or several
 abbrev pub receiver_places : List PinFacts → Found
 receiver_places pins = found_below (reads_at pins) (length pins)
 
--- the places of the net's drivers that some safe setting enables
+-- the place of the driver that some safe setting enables, if the net has just one such driver; otherwise, whether it has none or several
 abbrev pub enablers_of : List (List ControlClass) → List PinFacts → Found
 enablers_of rows pins = found_below (enables_at_place rows pins) (length pins)
 

@@ -22,7 +22,7 @@ abbrev pub ends_with : List ℕ → ℕ → Bool
 ends_with nets n = is_net_number n (slice_get nets (length nets - 1))
 
 -- The control with one more driver, on net `n`. The control becomes unsafe if it already has a driver on net `n`, or if `closed` is true,
--- that is, no control may enable a driver of the net.
+-- that is, no control may enable a driver of the net. Drivers are added in net order, so only the last net of the control can be `n`.
 abbrev pub with_one_driver : ℕ → Bool → ControlClass → ControlClass
 with_one_driver n closed row =
     cond (ends_with row.nets n) (record row { safe = false })

@@ -7,8 +7,9 @@ use Rattle.plan_tables.specs.declared.tables.PlanTables.{PlanTables}
 use Rattle.plan_tables.specs.Assigned.{assigned, set_compared}
 use Rattle.plan_tables.specs.Tables.{controlled}
 
--- The row after the bit of each of the pass's own drivers is set in the driver's cell. The pass's own drivers are the drivers by which it
--- observes nets, except the steady drivers, which observe their nets in every pass.
+-- The row after the bit of each of the pass's own drivers is set in the driver's cell. The pass's own drivers
+-- are the drivers by which it observes nets, except the steady drivers. Every pass observes nets by the
+-- steady drivers.
 abbrev pub driven : RawBoard → PlanTables → (DriverCell → Bool) → List Bool → List Ctl → List Bool
 driven board plan bit bits pass =
     fold (λ done c. assigned (λ d. d.position) bit done (controlled board plan.by_control.rows c))

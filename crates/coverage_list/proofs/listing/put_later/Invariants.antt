@@ -5,7 +5,7 @@ use Rattle.coverage_list.specs.inner.CoverForms.{pair_at, texts_from}
 use Rattle.line_printer.proofs.PutLemmas.{Completes}
 use Rattle.coverage_list.proofs.listing.put_later.Given as goal
 
--- What is written so far, followed by the lines for the pairs of net `low` and the nets from `from` on, is the whole text.
+-- What the call has written so far, followed by the lines for net `low` and each net from `from` on, is all that the call must write.
 abbrev pub invariant-loop-from : goal.invariant-loop-from
 invariant-loop-from g l =
     (net : Net) → slice_get l.board.nets l.low ≡ Some net

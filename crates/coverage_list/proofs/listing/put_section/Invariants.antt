@@ -3,7 +3,7 @@ use Rattle.coverage_list.specs.inner.CoverForms.{section_at, section_lines, text
 use Rattle.line_printer.proofs.PutLemmas.{Completes}
 use Rattle.coverage_list.proofs.listing.put_section.Given as goal
 
--- What is written so far, followed by the lines of the nets from `n` on, is the section.
+-- The text written so far, followed by the lines of the nets from `n` on, is the section.
 abbrev pub invariant-loop-n : goal.invariant-loop-n
 invariant-loop-n g l =
     Completes (g.K.Sink.shown l.fn.out) (g.K.Sink.shown l.out)
