@@ -338,7 +338,7 @@ module _ (text : List ℕ) (n k : ℕ) (left line : List ℕ) (after : Option (L
       ∙ block_here k (words_of line) (left_at (k + 1) after) title
       ∙ ap (λ rows. record { id = id_of (words_of line); lines = up_to_title rows } ∷ blocks_of rows) (behind_rows (k + 1) after)
 
--- if no line of a text is a title, all its lines are the lines before the first title
+-- if no line of a text is a title, `up_to_title` leaves out no line with words
 pub uncut_own : (text : List ℕ) (n : ℕ) → NoTitles (slice_split is_newline text) → up_to_title (rows_from n text) ≡ rows_from n text
 uncut_own text n none =
     ap up_to_title (sym (append-nil (rows_from n text)))

@@ -36,7 +36,8 @@ HasRows text = All IsNoTitle text.below
 abbrev Names : BlockText → Type 0
 Names text = names_board (words_of text.title) ≡ true
 
--- the lines are some lines that are not titles, followed by blocks that each begin with a title
+-- the lines are some lines that are not titles, followed by blocks; each block is a title and the lines below
+-- it, none of which is a title
 record Cut (lines : List (List ℕ)) : Type 0 where
   front : List (List ℕ)
   texts : List BlockText

@@ -54,7 +54,7 @@ title_fault (line ∷ lines) = if is_wrong_title line then Some (Title line.numb
 abbrev pub up_to_title : List NumberedLine → List NumberedLine
 up_to_title lines = take_while (λ line. not (begins_block line)) lines
 
--- a block: the id of its board, and the lines of the block that have words
+-- a block: the id of its board, and the lines with words below the block's title
 pub record BlockLines : Type 0 where
   pub id : Word
   pub lines : List NumberedLine

@@ -179,8 +179,8 @@ pub fn cut_at_title(text: &[u8], number: usize) -> (&[u8], Option<Title<'_>>)
     (text, None)
 }
 
-// Returns the block with this title and the text `own` below the title. The sum of the title's line number and the length of `own` must be
-// below 2^32.
+// Returns the block with this title and the text `own`, which follows the title and ends before the next title. The sum of the title's line
+// number and the length of `own` must be below 2^32.
 fn unread_block<'a>(title: Title<'a>, own: &'a [u8]) -> UnreadBlock<'a>
     requires { title.line + length own.now < 2 ^ 32 }
     ensures { lines_of_unread result

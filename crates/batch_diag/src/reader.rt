@@ -20,10 +20,11 @@ use std::thread::Threads;
 /// Reads the blocks of a batch, each with a log of `rows` rows of `len` bits each. The text may have any bytes, but must have fewer than
 /// 2^32. A text without words has no blocks.
 ///
-/// If a line with words comes before the first title, the error is `Start` with the number of the first such line. Otherwise, if a title
-/// does not have exactly two words or its id breaks the word rule, the error is `Title` with the number of the first such line. Otherwise,
-/// if the lines of a block are not a log, the error is `Inner` with the number of the first such block. The blocks take no more memory than
-/// the ids and one byte for each byte of the text.
+/// If a line with words comes before the first title, the error is `Start` with the number of the first such
+/// line. Otherwise, if a title does not have exactly two words or its id breaks the word rule, the error is
+/// `Title` with the number of the first such line. Otherwise, if the lines of a block are not a log, the
+/// error is `Inner` with the number of the first such block. If memory runs out first, the error is `Memory`.
+/// The blocks take no more memory than the ids and one byte for each byte of the text.
 pub fn blocks(alloc: Global, bytes: &[u8], rows: u64, len: u32) -> Result<Vec<Block>, BatchFault>
     requires { length bytes.now < 2 ^ 32 }
     ensures read { Gives batch_told (λ blocks. blocks.items)
@@ -40,8 +41,8 @@ pub fn blocks(alloc: Global, bytes: &[u8], rows: u64, len: u32) -> Result<Vec<Bl
 
 /// Like `blocks`, but reads the logs in as many pieces as there are workers. The sizes of the pieces differ by at most one block. The first
 /// half of the pieces runs side by side with the second half, and each half is halved again in the same way, down to single pieces. If
-/// memory runs out for a block and no earlier block has a fault, the error is `Memory`. If memory runs out while the results of pieces are
-/// joined, the error is also `Memory`, even if a block has a fault.
+/// memory runs out for a block and no earlier block has a fault, the error is `Memory`. If memory runs out for the list of blocks, for
+/// running the pieces or for joining their results, the error is also `Memory`, even if the lines of a block are not a log.
 pub fn blocks_by<R: Threads + Sync>(
     rt: &R,
     alloc: Global,
@@ -171,7 +172,7 @@ fn read_block(
     })
 }
 
-// Reads the log of a block from the text below the block's title. `board` is the number of the block, counted from 1.
+// Reads the log of a block from the text between the block's title and the next title. `board` is the number of the block, counted from 1.
 fn read_log(
     alloc: Global,
     unread: UnreadBlock<'_>,
@@ -195,9 +196,9 @@ fn read_log(
     }
 }
 
-// Returns the fault of block `board`. `fault` is the fault of the text below the block's title, and `before` lines of the whole text come
-// before this text. Lack of memory becomes `BatchFault::Memory`. `last` must be at least the line number in `fault`, and `before + last`
-// must be below 2^32.
+// Returns the fault of block `board`. `fault` is the fault of the text between the block's title and the next title, and `before` lines of
+// the whole text come before this text. Lack of memory becomes `BatchFault::Memory`. `last` must be at least the line number in `fault`,
+// and `before + last` must be below 2^32.
 fn inner(board: u32, before: u32, last: u32, fault: LogFault) -> BatchFault
     requires last { IsUpTo last fault }
     requires few { before + last < 2 ^ 32 }

@@ -1,7 +1,8 @@
 // The blocks of a batch whose logs have yet to be read.
 ghost use Rattle.std.specs.Prelude.{◌+◌, ◌<◌, ◌^◌, length};
 
-/// A block whose log has yet to be read: the line number of its title, the id in the title, and the text below the title.
+/// A block whose log has yet to be read: the line number of its title, the id in the title, and the text `own` from the line after the
+/// title up to the next title or the end of the batch's text.
 #[derive(Clone, Copy)]
 pub struct UnreadBlock<'a> {
     pub line: usize,

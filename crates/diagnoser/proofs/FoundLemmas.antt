@@ -80,7 +80,6 @@ module _ (s : SearchedLog) (place : ℕ) where
   abbrev plan : PlanTables
   plan = s.logged.test.plan
 
-  -- if the place has no fault, the search finds none there
   pub found_no_fault : (i : ℕ) → slice_get s.suspects i ≡ Some place
       → fault_at s.logged.test.board place ≡ None → AreFoundBetween s i (i + 1) []
   found_no_fault i at none = found_none s i place at none
@@ -115,7 +114,6 @@ module _ (board : RawBoard) (rules : IsBoard board) (plan : PlanTables) (p : IsP
       sym (ap (λ (l : List (Option Single)). listed_at l place) (listed_are board rules plan p are lists universe))
       ∙ candidate plan
 
-  -- if some pass observes all nets of the fault, it is a single fault of the board
   pub candidate_single : IfSome fault (λ single. observes_fault plan single ≡ true → IsSingle board single)
   candidate_single = by_fault fault place_has
     where

@@ -50,7 +50,7 @@ module _ (listed : SinglesListed) (board : RawBoard) (log : List (List Bool)) (f
         (pairs_order SinglePrecedes (singles board) (listed board rules).in_order) explaining);
   }
 
-  -- if no set of observable faults explains a log, no single fault explains it
+  -- if no nonempty set of observable faults explains a log, no single fault explains it
   pub passing_unexplained :
       ((single : Single) → IsSingle board single → IsObservable board (set_of single))
       → ((single : Single) → IsNonempty (set_of single)) →

@@ -69,8 +69,8 @@ fn explaining<R: Threads + Sync, G: Gate>(
     search.faults(rt, alloc, workers, gate)
 }
 
-/// Returns the verdict on the log in `logged`, which has a log and the board's test. The candidates are tried as in `diagnose`. If memory
-/// runs out, the call returns the error.
+/// Returns the verdict on a log. `logged` has the log and the board's test. The candidates are tried as in `diagnose`. If memory runs out,
+/// the call returns the error.
 pub fn diagnose_logged<R: Threads + Sync, G: Gate>(
     rt: &R,
     alloc: Global,

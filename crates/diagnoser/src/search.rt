@@ -88,8 +88,8 @@ impl<'a> Search<'a> {
         &self.suspects
     }
 
-    // Returns whether there is a telling net and this net rules the fault out. A single fault of the board that is ruled out does not
-    // explain the log.
+    // Returns whether `telling` is a net and this net rules the fault out. A single fault of the board that
+    // is ruled out does not explain the log.
     fn is_ruled_out(&self, fault: Single) -> bool
         ensures { result ≡ true → IsSingle self.now.logged.test.board fault
             → Explains self.now.logged.test.board fault self.now.logged.log → ⊥ }
@@ -100,8 +100,9 @@ impl<'a> Search<'a> {
         }
     }
 
-    // Returns the fault at a place, or `None` if the place has none. The fault may also be a short of two nets that no pass observes
-    // together. `near` speeds up the look-up, as in `Universe::candidate`.
+    // Returns the fault at a place, or `None` if the board does not have the place. A place of two nets that
+    // no pass observes together has no fault, but this function then returns the short of the two nets.
+    // `near` speeds up the look-up, as in `Universe::candidate`.
     fn candidate(&self, place: u64, near: &mut usize) -> Option<Single>
         ensures place { fault_at self.now.logged.test.board place
             ≡ where_observed self.now.logged.test.plan result }

@@ -62,7 +62,6 @@ module _ {A : Type 0} (P : A → Type 0) where
       by_test true d picks = inl (filter test xs, d.0 refl, refl, picks)
       by_test false d picks = inr (not_from_Decides false d refl, picks)
 
--- There is a boolean that says whether bits x and y agree. If a bit is expected, x and y agree only if they are equal.
 agree_at : (o : Option Bool) (x y : Bool) → IsDecided (AgreeAt o x y)
 agree_at None x y = (true, (λ e. tt, λ h. refl))
 agree_at (Some v) x y = (beq x y, booleans_Decides x y)

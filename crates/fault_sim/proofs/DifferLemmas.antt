@@ -129,7 +129,8 @@ none_decides board plan log (n ∷ nets) differ P to back r is = (
       absurd (d.1 (λ x less. to p x less n d.0)),
 )
 
--- the index of net n in the filtered list is the number of earlier nets that satisfy g
+-- if net n satisfies g, its index in the filtered list is the number of earlier nets that satisfy g; net n
+-- has the number a + n
 place_in_filter : (g : Net → Bool) (a : ℕ) (nets : List Net) (n : ℕ) (net : Net) → slice_get nets n ≡ Some net → g net ≡ true →
     slice_get
     (map (λ (m : Numbered). m.0) (filter (λ (m : Numbered). g m.1) (enumerate_from a nets)))

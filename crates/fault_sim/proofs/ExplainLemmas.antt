@@ -230,7 +230,6 @@ module _ (board : RawBoard) (plan : PlanTables) (log : List (List Bool)) (single
   is_one : ℕ → Bool
   is_one n = (n == a) || (n == b)
 
-  -- if the log shows the fault on all nets, only the fault's own nets differ
   pub are_own : ShowsAll board plan (Some single) log → list_all (λ n. (n == a) || (n == b)) nets ≡ true
   are_own show = all_from (λ n. (n == a) || (n == b)) nets (λ i n at. by_first n (has_contains nets n (has_at nets i n at)) (cases_eq n a))
     where
@@ -280,11 +279,9 @@ module _ (board : RawBoard) (plan : PlanTables) (lists : FaultLists)
     (listed : listed_places plan lists ≡ places_of board)
     (singles : (i : ℕ) (single : Single) → slice_get (places_of board) i ≡ Some (Some single) → IsSingle board single) where
   module _ (nets : List ℕ) (differ : AreDiffering board plan log nets) where
-    -- each net that differs is in the list of covered nets, at its `covered_place`
     stands : (n : ℕ) → Contains nets n → slice_get lists.nets (covered_place plan n) ≡ Some n
     stands n h = let e = (differ.exactly n).0 h in there n e.0 e.1
 
-    -- each net that differs is one of the own nets of every fault that explains the log
     is_of : (single : Single) → IsSingle board single → Explains board single log → (n : ℕ)
         → Contains nets n → (n ≡ first_net single) ⊎ (n ≡ second_net single)
     is_of single is_single explains n h = by_first (cases_eq n (first_net single))

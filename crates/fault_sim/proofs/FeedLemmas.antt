@@ -50,7 +50,6 @@ module _ (board : RawBoard) (rules : IsBoard board) (plan : PlanTables) (p : IsP
   pub readers_are : plan_readers plan n ≡ readers_of board net.pins
   readers_are = readers_on_is board plan.nets p.nets_are n net is_net
 
-  -- the plan's code of a net that a pass observes is the code of the net on the board
   pub code_is : (x : ℕ) (pass : List Ctl) (place : ℕ) → slice_get plan.passes x ≡ Some pass
       → observing_driver board (holds pass) net ≡ Some place →
       code_in plan n ≡ code_of_net board plan.passes n

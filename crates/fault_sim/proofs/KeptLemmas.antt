@@ -36,7 +36,6 @@ rows_kept board plan kept keep x j row = by_pass (slice_get kept x) refl
     by_pass (Some pass) at e = keep x pass at j row e
 
 module _ (plan : PlanTables) (pass : List Ctl) (n : ℕ) where
-  -- `enabled_driver` has the place of the driver that the pass enables on the net
   pub place_is : option_map (λ d. d.place) (enabled_driver plan pass n) ≡ place_of_driver (driver_in plan pass n)
   place_is = by_driver (driver_in plan pass n)
     where
@@ -53,7 +52,6 @@ module _ (plan : PlanTables) (pass : List Ctl) (n : ℕ) where
       by_driver None = refl
       by_driver (Some d) = refl
 
-  -- The pass observes the net if and only if the cell of the driver that it enables on the net carries the net's code.
   pub observes_is : observes_coded (enabled_driver plan pass n) ≡ observes_in plan pass n
   observes_is = by_driver (driver_in plan pass n)
     where

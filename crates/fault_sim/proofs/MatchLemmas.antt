@@ -36,7 +36,6 @@ nets_there board (OpenPin pin value) (inr (setting, safe, (v, q, driver, en, ep,
 nets_there board (Short a b kind) (less, (ne, (setting, safe, ((one, ea, oa), (two, eb, ob))))) =
     (slice_get_within board.nets a one ea, slice_get_within board.nets b two eb)
 
--- if every pass shows the effect of a single fault on every net, every pass shows it on the fault's own nets
 pub own_shown : (board : RawBoard) (plan : PlanTables) (log : List (List Bool)) (single : Single)
     → IsSingle board single → ShowsAll board plan (Some single) log → ShowsOwn board plan single log
 own_shown board plan log single is shown = λ x less.

@@ -19,7 +19,6 @@ use Rattle.fault_sim.specs.Starts.{pairs_before}
 use Rattle.fault_sim.specs.Laws.{PlacesCounted, SuspectsSuffice}
 use Rattle.fault_sim.proofs.PlaceLemmas.{length-flat, length-pairs, places_are}
 
--- if `lists` has the covered nets and the tested pins of a board, `place_count lists` is the number of the board's places
 pub places_counted : PlacesCounted
 places_counted board lists universe =
     let nets : length lists.nets
@@ -190,8 +189,6 @@ from_first board (i ∷ numbers) =
     ap (λ (k : ℕ). cons_option (fault_at board k) (faults_from (places_of board) 0 numbers)) same
     ∙ ap (λ (l : List Single). cons_option (fault_at board i) l) (from_first board numbers)
 
--- if a test is true only of faults that explain the log, filtering the suspects' faults by the test gives the same list as filtering all
--- single faults
 pub suffice : SuspectsSuffice
 suffice board plan lists log suspects rules are test only =
     sym (ap (λ (l : List Single). filter test l) (places_are board))

@@ -1,4 +1,5 @@
--- Lemmas about the list of a board's places and about the fault at each place.
+-- Lemmas about the list of a board's places and about the fault at each place. The possible single faults of a board are numbered, and the
+-- number of a fault is its place.
 use Rattle.std.proofs.Common.{◌≡◌, ◌⊎◌, inl, inr, ℕ, zero, suc, ◌+◌, ◌-◌, ◌*◌, ◌<◌, ◌≤◌, ◌==◌, Bool, true, false, cond, ◌&&◌, List, [], ◌∷◌, ◌++◌, length, map, get_or, Option, Some, None, refl, sym, ap, ◌∙◌, arith, length-append}
 use Rattle.std.specs.Prelude.{slice_get, filter, filter_map, option_and_then, option_map}
 use Rattle.std.specs.List.{flat_map}
@@ -114,7 +115,6 @@ paired_covered board a b e =
       below_at (length b.pins) (is_tested_driver board b) j.number j.below u.1,
     )
 
--- the faults at the places of a board are its single faults
 pub places_are : PlacesAre
 places_are board =
     filter_map-append (λ place. place) (stuck_places board) (open_places board ++ short_places board)
@@ -362,7 +362,6 @@ open_observed plan (pin ∷ pins) zero = refl
 open_observed plan (pin ∷ pins) (suc zero) = refl
 open_observed plan (pin ∷ pins) (suc (suc i)) = open_observed plan pins i
 
--- place r of a pair has the short of rank r, if some pass observes both nets
 pub short_there : (plan : PlanTables) (a b r : ℕ) (kind : Kind) → r < 4 → kind_rank kind ≡ r
     → at_once (slice_get (number_places plan (a, b)) r)
     ≡ where_observed plan (Some (Short a b kind))

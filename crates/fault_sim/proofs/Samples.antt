@@ -1,5 +1,5 @@
--- Samples of the suspects of small boards, worked by hand. A board has two places for each covered net, two for each tested pin, and four
--- for each pair.
+-- Samples of the suspects of small boards, worked by hand. The possible single faults of a board are numbered, and the number of a fault is
+-- its place. A board has two places for each covered net, two for each tested pin, and four for each pair of covered nets.
 use Rattle.std.proofs.Common.{◌≡◌, ◌≤◌, ℕ, zero, suc, [], ◌∷◌, get_or, refl, arith}
 use Rattle.fault_sim.specs.declared.fault_lists.FaultLists.{FaultLists}
 use Rattle.fault_sim.specs.Places.{place_count}
@@ -36,7 +36,8 @@ two_nets_places = refl
 none_differs : suspect_count two_nets [] ≡ 0
 none_differs = refl
 
--- if only net 0 differs, the suspects are the places of its stuck faults, of its two pins, and of the shorts of the only pair
+-- if only net 0 differs, the suspects are the places of its stuck faults, of the open faults of its two pins,
+-- and of the shorts of the only pair
 one_differs : net_suspects two_nets 0 0 ≡ 0 ∷ 1 ∷ 4 ∷ 5 ∷ 6 ∷ 7 ∷ 12 ∷ 13 ∷ 14 ∷ 15 ∷ []
 one_differs = refl
 
@@ -64,7 +65,8 @@ three_starts = record { count = refl; each = each }
     each (suc (suc (suc zero))) le = refl
     each (suc (suc (suc (suc a)))) le = absurd (omega (arith, le))
 
--- three covered nets, of which only the first has a tested pin; their pairs in order are 0 and 1, 0 and 2, 1 and 2
+-- three covered nets, of which only the first has a tested pin; by index, their pairs in order are 0 and 1, 0
+-- and 2, 1 and 2
 abbrev three_nets : FaultLists
 three_nets =
     record {

@@ -298,7 +298,6 @@ module _ (lists : FaultLists) (starts : ArePairStarts (length lists.nets) lists.
         by_stuck (inl h) = omega (arith, (two_has (2 * k) i h).1, k_in)
         by_stuck (inr h) = by_open (has_append pins (earlier ++ later) i h)
 
-    -- the places of net n's stuck faults are among its suspects
     pub has_stuck : (r i : ℕ) → r < 2 → i ≡ 2 * k + r → Has (net_suspects lists n k) i
     has_stuck r i less e = has_left (two_from (2 * k)) (pins ++ (earlier ++ later)) i (has_two (2 * k) r i less e)
 

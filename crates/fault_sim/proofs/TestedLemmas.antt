@@ -1,4 +1,5 @@
--- Lemmas which say that the passes of a plan test exactly the nets and pins that some safe setting tests.
+-- Lemmas which say that the passes of a plan observe exactly the nets that some safe setting observes, and test exactly the pins that some
+-- safe setting tests. A setting is a set of enabled controls. A safe setting enables at most one driver of each net, among other rules.
 use Rattle.std.proofs.Common.{◌≡◌, ◌≢◌, ◌⊎◌, inl, inr, ℕ, zero, suc, ◌+◌, ◌<◌, ◌≤◌, Bool, true, false, cond, ◌&&◌, List, [], ◌∷◌, ◌++◌, length, map, get_or, set, replicate, Option, Some, None, refl, sym, ap, ◌∙◌, subst, arith, length-append}
 use Rattle.std.specs.Prelude.{slice_get, sum_by, filter, fold, nat_lt}
 use Rattle.std.specs.List.{list_all, list_any, flat_map, enumerate_from, range_with_len}
@@ -162,7 +163,6 @@ module _ (board : RawBoard) (rules : IsBoard board) (plan : PlanTables) (p : IsP
         let d = driver_there place o in
         ap (λ (w : Option NetDriver). observes_by w (plan_readers plan n)) d.enabled ∙ d.beside
 
-  -- each pin that receives has a cell that reads it
   pub reader_there : (place : ℕ) (pin : NetPin) → slice_get net.pins place ≡ Some pin
       → receives board pin ≡ true
       → (r : ReaderCell) × Has (plan_readers plan n) r × (r.place ≡ place)
@@ -426,7 +426,6 @@ filter_numbers f g a (net ∷ nets) same =
     by_test false = refl
 
 module _ (board : RawBoard) (rules : IsBoard board) (plan : PlanTables) (p : IsPlanOf board plan) (are : ArePasses board plan.passes) where
-  -- the pins that the passes test are the tested pins of the board
   pub pins_are : all_pins board plan (length board.nets) ≡ tested_pins board
   pins_are =
       flat_numbers (tested_pins_of board plan) (tested_pins_in board) 0 board.nets

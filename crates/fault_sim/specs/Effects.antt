@@ -66,7 +66,7 @@ code_in plan n = slice_index_or plan.codes n 0
 abbrev pub driver_in : PlanTables → List Ctl → ℕ → Option NetDriver
 driver_in plan pass n = enabled_on plan.nets (holds pass) n
 
--- the place of a driver's pin in its net, or `None` if there is no driver
+-- the place of a driver's pin, that is, its index in the net's list of pins, or `None` if there is no driver
 abbrev pub place_of_driver : Option NetDriver → Option ℕ
 place_of_driver driver = option_map (λ d. d.place) driver
 

@@ -1,5 +1,7 @@
--- The conditions under which a log shows the effect of a single fault. A log shows an effect on a net if the net's compared cells have, in
--- the log, the bits that the effect gives them.
+-- The conditions under which a log shows the effect of a single fault. A pass of a log shows an effect on a
+-- net if the net's compared cells have, in the rows of the pass, the bits that the effect gives them. Cells
+-- that read the enabled driver's pin are not checked. A pass that enables no driver on the net shows every
+-- effect on it.
 use Rattle.std.specs.Prelude.{◌≡◌, ℕ, ◌+◌, ◌*◌, ◌<◌, ◌==◌, Bool, true, ◌||◌, List, [], length, Option, Some, None, slice_index_or}
 use Rattle.std.specs.List.{list_all}
 use Rattle.board_defs.specs.declared.board.Ctl.{Ctl}

@@ -70,7 +70,7 @@ observes_fault plan (StuckNet net value) = true
 observes_fault plan (OpenPin pin value) = true
 observes_fault plan (Short a b kind) = paired_in plan a b
 
--- the fault, if there is one and some pass observes all its nets, and otherwise `None`
+-- the fault if there is one and `observes_fault` is true of it, and otherwise `None`
 abbrev pub where_observed : PlanTables → Option Single → Option Single
 where_observed plan None = None
 where_observed plan (Some fault) = cond (observes_fault plan fault) (Some fault) None

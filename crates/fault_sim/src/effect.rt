@@ -16,13 +16,15 @@ pub enum Effect {
     Plain,
     /// One bit, which all cells have in all rows.
     Constant(bool),
-    /// In all rows, `bit` at the cells of the pin at `place`, and the expected bits at the other cells.
+    /// The expected bits, except at the cells of one pin, which have `bit` in all rows. `place` is the index
+    /// of this pin in the net's list of pins.
     AtPin {
         place: u32,
         bit: bool,
     },
-    /// The common bit of two shorted nets in each row. If at least one of the nets is driven, the common bit follows from `kind` and the
-    /// driven bits. If neither net is driven, it is `pull`. If `pull` is `None`, it is the expected bit.
+    /// The common bit of two shorted nets in each row. If at least one of the nets is driven, the common bit
+    /// follows from `kind` and the driven bits. If neither net is driven, it is `pull`, or the expected bit
+    /// if `pull` is `None`.
     Shorted {
         kind: Kind,
         first: Option<Feed>,
@@ -156,8 +158,8 @@ impl<'a> TestPass<'a> {
     }
 }
 
-// Returns the common bit of two shorted nets in a row. `first` and `second` are the bits to which the nets are driven in this row. If
-// neither net is driven, returns `pull`. If there is no pull, returns `expected`.
+// Returns the common bit of two shorted nets in a row. `first` and `second` are the bits to which the nets
+// are driven in this row. If neither net is driven, returns `pull`, or `expected` if `pull` is `None`.
 fn short_bit(
     kind: Kind,
     first: Option<bool>,
@@ -173,8 +175,8 @@ fn short_bit(
     }
 }
 
-/// Returns the bit that an effect gives the net's compared cells of the pin at `place` in row `j` of a pass. `expected` is the bit that the
-/// test expects.
+/// Returns the bit that an effect gives the compared cells of one of the net's pins in row `j` of a pass.
+/// `place` is the index of the pin in the net's list of pins. `expected` is the bit that the test expects.
 #[inline]
 pub fn effect_bit(effect: Effect, j: u32, place: u32, expected: bool) -> bool
     ensures { result ≡ effect_bit effect j place expected }

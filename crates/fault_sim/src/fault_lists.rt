@@ -1,12 +1,14 @@
-// The lists of covered nets and tested pins of a board. The single fault at each place of the board is computed from them.
+// The lists of covered nets and tested pins of a board. The possible single faults are computed from them. A
+// net is covered if some safe setting observes it.
 ghost use Rattle.std.specs.Prelude.{◌≤◌, length};
 ghost use Rattle.board_defs.specs.Limits.{most_nets, most_pins};
 ghost use Rattle.fault_sim.specs.Starts.{ArePairStarts};
 
 use board_defs::{Items, PinRef};
 
-/// The covered nets and the tested pins of a board. Item `a` of `starts` is the index of covered net `a`'s first pair with a later covered
-/// net, in the list of all pairs. The last item of `starts` is the count of all pairs.
+/// The covered nets and the tested pins of a board. Covered net `a` is item `a` of `nets`. Item `a` of
+/// `starts` is the index of covered net `a`'s first pair with a later covered net, in the list of all pairs.
+/// The last item of `starts` is the count of all pairs.
 #[derive(Drop)]
 pub struct FaultLists {
     pub nets: Items<u32>,

@@ -22,7 +22,7 @@ pub enum Source {
 /// The driver that a pass enables on a net.
 #[derive(Clone, Copy)]
 pub struct EnabledDriver {
-    /// The place of the driver's pin in the net.
+    /// The index of the driver's pin in the net's list of pins.
     pub place: u32,
     pub source: Source,
     /// True if the driver's own cell controls the driver.

@@ -1,4 +1,5 @@
-// Compares the cells of a log with the effect of a fault.
+// Compares the cells of a log with the effect of a fault. Only passes that enable a driver on a net check the
+// cells of the net, and cells that read the enabled driver's pin are never checked.
 ghost use Rattle.std.specs.Prelude.{◌≡◌, ◌↔◌, ◌<◌, [], length, slice_index_or, All, IsTrue};
 ghost use Rattle.std.specs.List.{list_all};
 ghost use Rattle.tap_defs.specs.board.TestRows.{code_bit};
@@ -24,8 +25,9 @@ fn bit_in(log: &Log, row: u64, at: u32) -> bool
     log.bit(row, at)
 }
 
-// Returns whether a cell of a net has the bit that `effect` gives it in row `j` of a pass. Returns true for a cell that reads the enabled
-// driver's pin. `row` is the number of this row in the log. This row must have a bit at the cell's position.
+// Returns whether a cell of a net has the bit that `effect` gives it in row `j` of a pass. Returns true for a
+// cell that reads the enabled driver's pin, whose index in the net's list of pins is `driver`. `row` is the
+// number of this row in the log. This row must have a bit at the cell's position.
 #[inline]
 fn cell_shows(
     log: &Log,
@@ -70,8 +72,9 @@ fn cells_show(
 }
 
 impl<'a> NetRows<'a> {
-    // Returns whether all cells have the bits of an effect in all rows. The expected bits are the bits of `code`.
-    // `driver` is the place of the enabled driver's pin. Cells that read this pin are not checked.
+    // Returns whether all cells have the bits of an effect in all rows. The expected bits are the bits of
+    // `code`. `driver` is the place of the enabled driver's pin, that is, its index in the net's list of
+    // pins. Cells that read this pin are not checked.
     fn show(&self, code: u32, effect: Effect, driver: u32) -> bool
         ensures { IsTrue result
             ↔ ShowRows self.now.log self.now.first self.now.width code self.now.readers effect
@@ -108,9 +111,9 @@ pub fn net_count(board: &Board) -> u32
 }
 
 impl<'a> LoggedPass<'a> {
-    // Returns whether this pass of the log shows an effect on a net, that is, whether the net's compared cells have the
-    // bits that the effect gives them. `driver` is the place of the enabled driver's pin, if the pass enables a driver
-    // on the net.
+    // Returns whether this pass of the log shows an effect on a net, that is, whether the net's compared
+    // cells have the bits that the effect gives them. `driver` is the place of the enabled driver's pin,
+    // whose cells are not checked. If `driver` is `None`, the result is true.
     fn shows_effect(&self, effect: Effect, driver: Option<u32>, net: u32) -> bool
         ensures { IsTrue result
             ↔ ShowsEffect self.now.logged.test.plan self.now.logged.log self.now.number net effect
@@ -119,8 +122,9 @@ impl<'a> LoggedPass<'a> {
         self.net_rows(net).show_by(self.code(net), effect, driver)
     }
 
-    /// Returns whether this pass of the log shows the effect of a fault on a net, that is, whether the net's compared
-    /// cells have the bits that the fault gives them. Without a fault, checks for the expected bits.
+    /// Returns whether this pass of the log shows the effect of a fault on a net, that is, whether the net's
+    /// compared cells have the bits that the fault gives them. Without a fault, checks for the expected bits.
+    /// Returns true if the pass enables no driver on the net or the net is guarded.
     pub fn shows(&self, fault: Option<Single>, net: u32) -> bool
         ensures { IsTrue result
             ↔ Shows self.now.logged.test.board self.now.logged.test.plan fault self.now.logged.log

@@ -68,7 +68,8 @@ impl<'a> TestPass<'a> {
         Ok(rows)
     }
 
-    // Returns, for each of the first `nets` nets, the driver that the pass enables on the net, if there is one.
+    // Returns, for each of the first `nets` nets, the driver that the pass enables on the net, or `None` if
+    // it enables none or the net is guarded.
     fn drivers_of(&self, alloc: Global, nets: u32) -> Result<Vec<Option<EnabledDriver>>, AllocError>
         ensures { IfOk result
             (λ drivers. AreDrivers self.now.test.plan (controls_of self.now) drivers.items) }
@@ -152,8 +153,8 @@ pub fn kept_drivers(kept: &[KeptPass], x: u32) -> &[Option<EnabledDriver>]
     }
 }
 
-/// Returns the kept driver of a net. The outer option is `None` if the pass keeps no entry for the net. The inner option is `None` if
-/// the pass enables no driver on the net.
+/// Returns the kept driver of a net. The outer option is `None` if the pass keeps no entry for the net. The
+/// inner option is `None` if the pass enables no driver on the net or the net is guarded.
 pub fn kept_driver(kept: &[Option<EnabledDriver>], net: u32) -> Option<Option<EnabledDriver>>
     ensures { result ≡ slice_get kept.now net }
 {

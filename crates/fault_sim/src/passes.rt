@@ -133,8 +133,8 @@ impl<'a> TestPass<'a> {
         self.drivers.on(net)
     }
 
-    /// Returns the place of the pin of the driver that the pass enables on a net. Returns `None` if the pass enables no
-    /// driver on the net, or if the net is guarded.
+    /// Returns the place of the enabled driver's pin, that is, the pin's index in the net's list of pins.
+    /// Returns `None` if the pass enables no driver on the net or the net is guarded.
     pub fn driver_place(&self, net: u32) -> Option<u32>
         ensures { result
             ≡ place_of_driver (driver_in self.now.test.plan (controls_of self.now) net) }
@@ -203,8 +203,9 @@ impl<'a> Model for LoggedPass<'a> {
 }
 
 impl<'a> LoggedPass<'a> {
-    /// Does nothing. Its contract states three facts about the pass: it is one of the plan's passes, the plan is built from the board's
-    /// passes, and the log has the rows of the test.
+    /// Does nothing. Its contract states four facts: the pass is one of the plan's passes, the plan is a plan
+    /// of the board, its passes are the board's passes, and the log has the rows of the test, each as long as
+    /// a data scan.
     pub fn laws(&self)
         ensures pass { self.now.number < length self.now.logged.test.plan.passes }
         ensures plan { IsPlanOf self.now.logged.test.board self.now.logged.test.plan }

@@ -11,8 +11,8 @@ use crate::net_rows::NetRows;
 use crate::passes::LoggedPass;
 use scan_planner::ReaderCell;
 
-/// The rows of a pass in which some compared cell of a net shows 1, and the rows in which some compared cell shows 0. A row can be in both
-/// words. Cells that read the driver's own pin are not counted.
+/// The rows of a pass in which some compared cell of a net shows 1, and the rows in which some compared cell
+/// shows 0. A row can be in both words. Cells that read the enabled driver's pin are not counted.
 #[derive(Clone, Copy)]
 pub struct ShownWords {
     pub ones: u32,
@@ -115,8 +115,9 @@ impl<'a> NetRows<'a> {
 }
 
 impl<'a> LoggedPass<'a> {
-    /// Returns the rows of the pass in which some compared cell of a net shows 1, and the rows in which some compared cell shows 0. Both
-    /// words are 0 if the pass enables no driver on the net. Cells that read the enabled driver's pin are not counted.
+    /// Returns the rows of the pass in which some compared cell of a net shows 1, and the rows in which some
+    /// compared cell shows 0. Both words are 0 if the pass enables no driver on the net or the net is
+    /// guarded. Cells that read the enabled driver's pin are not counted.
     pub fn shown(&self, net: u32) -> ShownWords
         ensures { IsShownIn (net_in_pass self.now net) result }
     {

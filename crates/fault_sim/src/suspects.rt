@@ -20,9 +20,10 @@ use std::marker::Model;
 use tap_defs::board_law;
 use tap_defs::board_law::{codes_number_covered, singles_observable};
 
-/// The places of a board whose faults may explain a log. A place is the number of a possible single fault. The model is the list of these
-/// places. A single fault changes only compared cells of its own nets, so every suspect is the place of a fault that involves all nets that
-/// differ in the log.
+/// The suspects of a log: the places of a board whose faults may explain the log. A place is the number of a
+/// possible single fault. The model is the list of these places. A single fault changes only compared cells
+/// of its own nets, so every suspect belongs to all nets that differ in the log. The places of two nets that
+/// no pass observes together have no fault, but they can be suspects.
 #[derive(Drop)]
 pub struct Suspects {
     places: Vec<u64>,
@@ -130,7 +131,7 @@ fn push_later(places: &mut Vec<u64>, lists: &FaultLists, k: u32) -> Result<(), A
     Ok(())
 }
 
-// Returns the index of a net in the list of covered nets, if the net has a code. The codes number the covered nets from 1.
+// Returns the index of net `n` in the list of covered nets, or 0 if the net has no code. The codes number the covered nets from 1.
 fn covered_place(plan: &Plan, n: u32) -> u32
     ensures { result ≡ covered_place plan.now n }
 {
@@ -195,10 +196,11 @@ fn suspects_of(
 }
 
 impl Suspects {
-    /// Returns the places of a universe whose faults may explain a log. If one net differs in the log, these are the
-    /// places of all faults of this net. If two nets differ, these are the places of the shorts of the two nets.
-    /// Otherwise there are none. The plan must be built from the board's passes. The universe, which has all places of
-    /// a board, must be built for this board. The log must have the plan's rows, each as long as a data scan.
+    /// Returns the places of a universe whose faults may explain a log. If one net differs in the log, these
+    /// are the places of all faults of this net. If two nets differ, these are the four places of the two
+    /// nets, which have no fault if no pass observes both nets. Otherwise there are none. The plan must be
+    /// built from the board's passes. The universe, which has all places of a board, must be built for this
+    /// board. The log must have the plan's rows, each as long as a data scan.
     pub fn new(
         alloc: Global,
         board: &Board,

@@ -149,7 +149,8 @@ fn push_pins(
     push_flagged(net, &flags, pins)
 }
 
-/// Returns the pins of the board that some pass tests, as a driver or as a receiver, in pin order.
+/// Returns the pins of the board that some pass tests, as a driver or as a receiver. The pins are in net
+/// order, and the pins of a net are in the order of its list of pins.
 pub fn tested_pins(alloc: Global, board: &Board, plan: &Plan) -> Result<Vec<PinRef>, AllocError>
     ensures { IfOk result
         (λ pins. pins.items ≡ all_pins board.now plan.now (length board.now.nets)) }

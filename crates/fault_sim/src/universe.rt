@@ -36,8 +36,9 @@ impl Model for Universe {
     ghost view = { λ a. a.lists };
 }
 
-// Returns the items of `FaultLists::starts` for `nets` covered nets. Item `a` is the index of net `a`'s first pair with a later net, in the
-// list of all pairs. The last item is the count of all pairs. `nets` must be at most `most_nets`.
+// Returns the items of `FaultLists::starts` for `nets` covered nets. Item `a` is the index of covered net
+// `a`'s first pair with a later covered net, in the list of all pairs. The last item is the count of all
+// pairs. `nets` must be at most `most_nets`.
 fn pair_starts(alloc: Global, nets: u32) -> Result<Vec<u64>, AllocError>
     requires { nets ≤ most_nets }
     ensures { IfOk result (λ starts. ArePairStarts nets starts.items) }
@@ -52,7 +53,8 @@ fn pair_starts(alloc: Global, nets: u32) -> Result<Vec<u64>, AllocError>
     Ok(starts)
 }
 
-// Returns true only if pair `k` is a pair of net `row` with a later net.
+// Returns true only if pair `k` is a pair of covered net `row` with a later covered net. The covered nets are
+// numbered by their index in the list of covered nets.
 fn holds_pair(starts: &[u64], row: usize, k: u64) -> bool
     ensures within { result ≡ true → row + 1 < length starts.now }
     ensures low { result ≡ true → slice_index_or starts.now row 0 ≤ k }
@@ -64,8 +66,8 @@ fn holds_pair(starts: &[u64], row: usize, k: u64) -> bool
     k < start_at(starts, row.saturating_add(1))
 }
 
-// Returns the first net of pair `k`, by binary search. `starts` must not be empty. `k` must be at least its first item and below its last
-// item.
+// Returns the index of the first net of pair `k` in the list of covered nets, by binary search. `starts` must
+// not be empty. `k` must be at least its first item and below its last item.
 fn halved_row(starts: &[u64], k: u64) -> usize
     requires some { 0 < length starts.now }
     requires first { slice_index_or starts.now 0 0 ≤ k }
@@ -87,8 +89,9 @@ fn halved_row(starts: &[u64], k: u64) -> usize
     low
 }
 
-// Like `halved_row`, but first tries the nets `near` and `near + 1`. `near` is the result of the last look-up. Most callers ask for pairs
-// in ascending order, so one of these two nets is usually the right one.
+// Like `halved_row`, but first tries the indexes `near` and `near + 1`. `near` is the result of the last
+// look-up. Most callers ask for pairs in ascending order, so one of these two indexes is usually the right
+// one.
 fn row_of(starts: &[u64], k: u64, near: usize) -> usize
     requires some { 0 < length starts.now }
     requires first { slice_index_or starts.now 0 0 ≤ k }
@@ -114,8 +117,8 @@ fn pair_count(lists: &FaultLists) -> u64
     start_at(lists.starts.as_slice(), lists.nets.len())
 }
 
-/// Returns item `a` of `starts`: the index of net `a`'s first pair with a later net, in the list of all pairs. The last item is the count
-/// of all pairs. Returns 0 past the last item.
+/// Returns item `a` of `starts`: the index of covered net `a`'s first pair with a later covered net, in the
+/// list of all pairs. The last item is the count of all pairs. Returns 0 past the last item.
 pub fn start_at(starts: &[u64], a: usize) -> u64
     ensures { result ≡ slice_index_or starts.now a 0 }
 {
@@ -230,7 +233,7 @@ fn place_at(lists: &FaultLists, i: u64, near: &mut usize) -> Option<Single>
     }
 }
 
-// Returns `fault`, or `None` if there is no pass that observes all nets of the fault.
+// Returns `fault`, or `None` if `fault` is a short and no pass observes both of its nets.
 fn where_observed(plan: &Plan, fault: Option<Single>) -> Option<Single>
     ensures { result ≡ where_observed plan.now fault }
 {

@@ -112,7 +112,8 @@ fn shorted_value(kind: Kind, first: FeedWords, second: FeedWords) -> u32
     }
 }
 
-// Returns the rows in which at least one of two shorted nets is driven, and the bits to which both nets are driven in these rows.
+// Returns the rows in which at least one of two shorted nets is driven, and the common bits of the nets in
+// these rows.
 #[inline]
 fn shorted_words(kind: Kind, first: FeedWords, second: FeedWords) -> FeedWords
     ensures { (j : ℕ) → j < 32

@@ -80,7 +80,8 @@ const ENTRIES: u64 = 16;
 // The numbers of a piece and of the item with which it entered the gate.
 type Entry = (u64, u64);
 
-// A gate that records the items with which each piece enters, in the order of the piece's entries.
+// A gate that records the items with which each piece enters, in the order of the piece's entries. It records
+// at most `ENTRIES` entries of each piece.
 #[derive(Drop)]
 struct Entries {
     counts: Vec<AtomicU64>,
@@ -114,7 +115,8 @@ impl Entries {
         }
     }
 
-    // Returns all entries, piece by piece. The entries of one piece are in the order in which the piece made them.
+    // Returns all entries of the pieces below `PIECES`, piece by piece. The entries of one piece are in the
+    // order in which the piece made them. For an entry that is not recorded, the item has no meaning.
     fn all(&self, alloc: Global) -> Result<Vec<Entry>, AllocError> {
         let mut all = Vec::new(alloc);
         for piece in 0..PIECES {

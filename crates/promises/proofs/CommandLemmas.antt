@@ -1,5 +1,5 @@
--- Lemmas which say that the promise of each command holds if the text that the command writes has the property
--- `IsWorthFor`.
+-- Lemmas which derive the promise of each command from `IsWorthFor`, the property that the contract of `run`
+-- states for the text that a command writes.
 use Rattle.std.proofs.Common.{◌≡◌, ◌∙◌, ℕ, Bool, List, [], ◌∷◌, Option, Result, Ok, Err, refl, sym, ap, subst, inl, inr}
 use Rattle.std.specs.Prelude.{◌↔◌, Some}
 use Rattle.board_defs.specs.declared.board.RawBoard.{RawBoard}

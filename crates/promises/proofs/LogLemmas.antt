@@ -21,7 +21,6 @@ use Rattle.command_line.specs.Words.{Text}
 use Rattle.promises.specs.Logs.{HoldsBoardBlock, HoldsBoardBlocks, HoldsLog, LinesAreRead}
 use Rattle.promises.proofs.RowLemmas.{rows_many}
 
--- if one relation implies another, lists that are related in turn by the first are related in turn by the second
 each_implied : {A B : Type 0} (P Q : A → B → Type 0) → ((x : A) (y : B) → P x y → Q x y)
     → (xs : List A) (ys : List B) → EachPair P xs ys → EachPair Q xs ys
 each_implied P Q implies [] [] each = tt

@@ -80,7 +80,6 @@ module _ (run : Run) (is : IsRun run) (command : Command) (asks : HasWordsOf run
       by_outcome (Ok text) given settles = absurd (not_both (one.outcome command reading (Ok text) (Err line) given fault))
       by_outcome (Err other) given settles = settles
 
-  -- if the texts that were read give the line of a fault, the status is not Done
   pub not_done : SayOne → (reading : Reading) (line : Text)
       → known_reading run.old.held (wanted_of command) ≡ Some reading
       → IsOutcome command reading (Err line) → run.status ≢ Done
@@ -114,7 +113,6 @@ module _ (run : Run) (is : IsRun run) (command : Command) (asks : HasWordsOf run
         let same = one_reading run.old.held (wanted_of command) (Read texts) (Read others) known read in
         cc
 
-    -- if the texts that were read give `text`, the texts of the files give `text`
     given : (request : Request) (text : Text)
         → IsReadAs run.old.held command run.old.asked run.new.asked request
         → IsGiven (roles_of command) request (Ok text) → GivesOutcome command texts (Ok text)
@@ -127,7 +125,8 @@ module _ (run : Run) (is : IsRun run) (command : Command) (asks : HasWordsOf run
     gives_text (inl e) = let told = done_here e in (told.text, given told.request told.text told.read told.gives)
     gives_text (inr e) = let told = cut_here e in (told.text, given told.request told.text told.read told.gives)
 
-    -- if the files give no fault, and each text that they give has the property P, the run keeps the promise to print a text with P
+    -- if the files give no fault, and each text that they give and that satisfies `IsWorthFor` has the
+    -- property P, the run keeps the promise to print a text with P
     pub prints : (request : Request) → request_of command texts ≡ Some request → (P : Text → Type 0)
         → ((line : Text) → GivesOutcome command texts (Err line) → ⊥)
         → ((text : Text) → GivesOutcome command texts (Ok text) → IsWorthFor request text → P text)

@@ -122,7 +122,8 @@ module _ (held : Held) where
         let told = (tests chain_names lines bsdl lengths (((refl, omega arith), refl), each) are).puts refl in
         (told.2.2, ap meaning told.1 ∙ told.2.3, told.2.4 wiring parts same)
 
-    -- if `text` keeps the promise, it fails on each chain with another number of parts and no more bits
+    -- if `text` keeps the promise, it fails on each chain with another number of parts, valid instruction
+    -- lengths and no more instruction bits
     chain_fails : (text : Text) → TestsChain (chain_run text)
         → (wiring : Wiring) (parts : List TestLogic) → AreIrLengths (ir_lengths parts)
         → length parts ≢ length lengths → sum (ir_lengths parts) ≤ sum lengths

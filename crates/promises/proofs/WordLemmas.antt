@@ -112,7 +112,8 @@ of_make (number ∷ []) = by_number (number_of 255 number) refl
     by_number (Some parts) is = (number, is, refl)
 of_make (number ∷ other ∷ others) = tt
 
--- the words of a command with a number of workers and the names of a file of response logs and of the files of its board
+-- `command workers names` has the words `name`, a number of workers, and the names of a file of response logs
+-- and of the files of its board
 abbrev AreWorked : (ℕ → LogNames → Command) → Text → Type 0
 AreWorked command name =
     (number : Text) (words : List Text) (workers : ℕ) (names : LogNames)

@@ -46,9 +46,10 @@ use Rattle.promises.specs.Runs.{Run, HasWordsOf, AsksNothing, RunsOn, HoldsEach,
 use Rattle.promises.specs.Gives.{GivesOutcome, summary}
 use Rattle.promises.specs.Logs.{HoldsLog, HoldsBoardBlocks}
 
--- `chain`: the text has a meaning. It passes on every chain of parts with the instruction lengths of the files. It
--- fails on every chain that has another number of parts, at least one, each with two or more instruction bits, and no
--- more instruction bits in total. Both are true whatever the pins capture.
+-- `chain`: the text has a meaning. It passes on every chain of parts with the instruction lengths of the files. It fails
+-- on every chain with these four properties: it has at least one part; each part has two or more instruction bits; the
+-- number of parts differs from that of the files; and the total number of instruction bits is no larger than that of the
+-- files. Both are true whatever the pins capture.
 abbrev pub TestsChain : Run → Type 0
 TestsChain run =
     (names : ChainNames) (chain : Text) (bsdl : List Text) (lengths : List ℕ)
@@ -77,8 +78,10 @@ ListsDevice run =
     (name text : Text) (device : RawDevice) → RunsOn run (Device name) (text ∷ []) → IsDeviceText text (Ok device) →
     PrintsText run (Device name) (λ listing. (listing ≡ device_text device) × IsDevice device)
 
--- `cover`: the text lists each net that no safe setting covers, with the reason. For the covered nets it lists each driver, receiver and
--- pair of nets that no safe setting tests.
+-- `cover`: the text has the number of nets and the number of covered nets, that is, nets that some safe
+-- setting observes. It lists each other net, with the reason. It also lists each driver and receiver of a
+-- covered net that no safe setting tests, and each pair of covered nets that no safe setting observes
+-- together.
 abbrev pub ListsCover : Run → Type 0
 ListsCover run =
     (names : BoardNames) (chain nets : Text) (bsdl : List Text) (board : RawBoard)
@@ -167,9 +170,11 @@ RestsOnBlocks run =
     RunsOn run (Batch workers names) (logs ∷ chain ∷ nets ∷ bsdl) → (run.status ≡ Done) ⊎ (run.status ≡ WriteFault) →
     (board : RawBoard) × Denotes chain nets bsdl board × (blocks : List Block) × HoldsBoardBlocks board logs blocks
 
--- `groups`: if the file holds a log of the walking test, the printed text names the only set of groups of walk nets that explains the log,
--- or says that no set does. A set explains a log if every run with the set's shorts and no other fault gives the log's compared bits. In
--- such a short, a 1 wins. Each set explains some log, and all logs that one set explains have the same compared bits.
+-- `groups`: if the file holds a log of the walking test, the printed text names the only set of groups of
+-- walk nets that explains the log, or says that no set does. A set explains a log if every run with the set's
+-- shorts and no other fault gives the log's compared bits. In such a short, a 1 wins. Each set explains some
+-- log, and all logs that one set explains have the same compared bits. The meaning of the text of the walking
+-- test is the clocks of its scans.
 abbrev pub FindsGroups : Run → Type 0
 FindsGroups run =
     (names : LogNames) (log chain nets : Text) (bsdl : List Text) (board : RawBoard) (rows : List (List Bool)) →

@@ -15,8 +15,10 @@ use Rattle.btest_cli.specs.declared.status.Status.{Status}
 use Rattle.btest_cli.specs.declared.status.Status.TheVariants.{Done, NoMemory}
 use Rattle.promises.specs.declared.desk.Desk.{Desk}
 
--- The ends of a run at one time. For the store: the text under each name, if the store's texts are known, the names that were asked for,
--- and how often a read of each name failed. For the output and for the notes: the bytes that were taken, and how often a write failed.
+-- The ends of a run at one time. `held` is the text under each name, if the store's texts are known. `asked`
+-- has the names for which the store was asked, and `unread` is the number of failed reads of each name. `out`
+-- and `notes` are the bytes that the output and the notes took, and `unwritten` and `unnoted` are the numbers
+-- of failed writes to them.
 pub record Ends : Type 0 where
   pub held : Held
   pub asked : List Text

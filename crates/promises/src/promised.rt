@@ -47,8 +47,10 @@ impl Desk {
         self.run(rt, words, gate)
     }
 
-    /// Runs a command line. Promise: `cover` lists each net that no safe setting covers, with the reason. For the covered nets it lists
-    /// each driver, receiver and pair of nets that no safe setting tests.
+    /// Runs a command line. Promise: `cover` prints the number of nets and the number of nets that some safe
+    /// setting observes, the covered nets. It lists each other net, with the reason. It also lists each
+    /// driver and receiver of a covered net that no safe setting tests, and each pair of covered nets that no
+    /// safe setting observes together.
     pub fn cover<R: Threads + Sync, G: Gate>(
         &mut self,
         rt: &R,
@@ -134,9 +136,10 @@ impl Desk {
         self.run(rt, words, gate)
     }
 
-    /// Runs a command line. Promise: a text is printed only if the words ask for a command whose files give this text. The status is
-    /// Refused only if the files give the line that is written. Nothing is said here about the lines of other statuses. Files that were
-    /// read or that the store holds give a text or a line.
+    /// Runs a command line. Promise: a text is printed, in whole or in part, only if the words ask for a
+    /// command whose files give this text. The status is Refused only if the files give the line that is
+    /// written. Nothing is said here about the lines of other statuses. The files of a command give a text or
+    /// a line if the store holds them, or if no read of them failed and memory did not run out.
     pub fn outcome<R: Threads + Sync, G: Gate>(
         &mut self,
         rt: &R,
@@ -149,8 +152,9 @@ impl Desk {
         self.run(rt, words, gate)
     }
 
-    /// Runs a command line. Promise: unless a read of a file failed or memory ran out, the status is Refused if and only if the files have
-    /// a fault or a file is too long. The notes then take the line for the first fault.
+    /// Runs a command line. Promise: unless a read of a file failed or memory ran out, the status is Refused
+    /// if and only if the command's files have a fault or one of them is too long. The notes then take the
+    /// line for the first fault.
     pub fn refused<R: Threads + Sync, G: Gate>(
         &mut self,
         rt: &R,

@@ -18,9 +18,9 @@ pub struct Bench {
     alloc: Global,
     /// The texts, each with its name.
     pub store: MemStore,
-    /// What the run wrote to standard output.
+    /// The sink that takes the run's standard output.
     pub out: MemSink,
-    /// What the run wrote to standard error.
+    /// The sink that takes the run's standard error.
     pub notes: MemSink,
 }
 

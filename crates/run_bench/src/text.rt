@@ -35,7 +35,7 @@ pub enum Text {
     Numbered {
         /// The text before the copies.
         head: &'static str,
-        /// The string of which the copies are made.
+        /// The string to copy.
         piece: &'static str,
         /// The first number.
         first: u32,

@@ -527,7 +527,8 @@ fn is_joined(alloc: Global, bytes: &[u8], pieces: &[&str]) -> Result<bool, Alloc
     Ok(bytes == joined.as_bytes())
 }
 
-// Checks a table of faults in the texts of a command. `names` has the names of these texts.
+// Checks the message and the refusal line of each fault in a table. The faults are faults of a command's
+// texts, and `names` has the names of these texts.
 fn inputs_hold(
     alloc: Global,
     names: Names<'static, 'static>,

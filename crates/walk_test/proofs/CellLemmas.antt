@@ -211,7 +211,7 @@ module _ (board : RawBoard) (rules : IsBoard board) (walk : List Ctl) (setting :
   abbrev row : TestRow
   row = walk_row board walk j
 
-  -- For a walk net n, whether the net carries 1 in row j. It does if exactly j walk nets come before it.
+  -- True if walk net n carries 1 in row j, that is, if exactly j walk nets come before it.
   abbrev pub is_marked : ℕ → Bool
   is_marked n = count_by (is_walked board walk) (take n board.nets) == j
 

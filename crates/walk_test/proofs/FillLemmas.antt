@@ -636,8 +636,8 @@ nets_few board = at_most (λ n. is_walk_net board (walk_setting board) (slice_ge
         by_test true h = omega (arith, h)
         by_test false h = omega (arith, h)
 
--- The rows that scan j after the EXTEST codes (counted from 0) shifts in and compares, if the walk has a pass. They follow from whether a
--- walk net is at place j, and at the place before it.
+-- The rows that scan j after the EXTEST codes shifts in and compares, if the walk has a pass. The first of these scans is scan 0. The rows
+-- depend on whether the list of walk nets has an item j and an item j - 1.
 module _ (board : RawBoard) (rules : IsBoard board) (t : WalkTables) (w : IsWalkOf board t) (some : 0 < length t.plan.passes) where
   net_there : (j : ℕ) (c : NetCells) → slice_get t.cells j ≡ Some c → j < length t.nets
   net_there j c at = omega (arith, slice_get_within t.cells j c at, cells_count board rules t w some)

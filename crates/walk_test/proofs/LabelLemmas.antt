@@ -87,8 +87,8 @@ module _ (log : List (List Bool)) (cells : List NetCells) (long : length cells �
   abbrev log_labels : List ℕ
   log_labels = map (label_of log) cells
 
-  -- In each row, each compared cell reads 1 if and only if its net has the same label as the net of the row. This is the same as
-  -- `ShowsLabels`.
+  -- In each row, each compared cell reads 1 if and only if its net has the same label as the net of the row.
+  -- This condition is equivalent to `ShowsLabels`.
   abbrev EachShows : Type 0
   EachShows =
       (j i p : ℕ) (c : NetCells) → j < length cells → slice_get cells i ≡ Some c → Has c.compared p

@@ -36,8 +36,9 @@ group_of groups n = group_from 0 groups n
 abbrev pub or_shorts : List (List ℕ) → FaultSet
 or_shorts groups = record no_faults { short = group_of groups; kind = λ k. Or }
 
--- `groups` is a set of groups of the board, and it explains the log: in every run of the walk text with these shorts, each compared bit
--- that an SDR statement captures is the log's bit.
+-- `groups` is a set of groups of the board, and it explains the log: the log has the shape of a log of the
+-- walk text, and in every run of the text with these shorts, each compared bit that an SDR statement captures
+-- is the log's bit.
 pub record Explain (board : RawBoard) (log : List (List Bool)) (groups : List (List ℕ)) : Type 0 where
   pub are : AreGroups board groups
   pub explained : ExplainedBy board (or_shorts groups) (walk_row_list board) log

@@ -1,4 +1,6 @@
--- The laws of the walking test.
+-- The laws of the walking test. The walk setting is the first pass of the board's test without the controls
+-- of switching drivers. A switching driver is enabled by its own cell, on an unguarded net that is pulled to
+-- its disable value.
 use Rattle.std.specs.Prelude.{◌≡◌, ℕ, Bool, ◌&&◌, not, List, length, Some, slice_get}
 use Rattle.board_defs.specs.declared.board.RawBoard.{RawBoard}
 use Rattle.board_defs.specs.declared.board.Ctl.{Ctl}

@@ -87,10 +87,10 @@ impl<'a> RowFiller<'a> {
         }
     }
 
-    // Fills `tdo` and `mask` for scan `j` after the EXTEST codes, counted from 0. This scan captures while row `j - 1`
-    // is in the latches. The compared cells of the walk net that carries 1 in that row should read 1, and all other
-    // compared cells should read 0. Scan 0 compares nothing. `j` must be at most the number of walk nets, and each row
-    // must have room for a scan of data.
+    // Fills `tdo` and `mask` for scan `j` after the EXTEST codes. The first of these scans is scan 0, and it compares
+    // nothing. Any other scan captures while row `j - 1` is in the update latches. The compared cells of the walk net
+    // that carries 1 in that row should read 1, and all other compared cells should read 0. `j` must be at most the
+    // number of walk nets, and each row must have room for a scan of data.
     fn compare(&self, j: usize, tdo: &mut Row, mask: &mut Row)
         requires row { j ≤ length self.now.tables.nets }
         requires tdo_room { data_bits self.now.board ≤ tdo.old.room }
@@ -112,9 +112,9 @@ impl<'a> RowFiller<'a> {
         }
     }
 
-    // Fills the three rows with scan `j` after the EXTEST codes, counted from 0. Returns its shape (whether it is an
-    // instruction scan, and whether it compares a bit). `j` must be at most the number of walk nets. Each row must have
-    // room for a scan of instructions and for a scan of data.
+    // Fills the three rows with scan `j` after the EXTEST codes. The first of these scans is scan 0. Returns the scan's
+    // shape (whether it is an instruction scan, and whether it compares a bit). `j` must be at most the number of walk
+    // nets. Each row must have room for a scan of instructions and for a scan of data.
     fn fill(&self, j: usize, rows: &mut ScanRows) -> Shape
         requires row { j ≤ length self.now.tables.nets }
         requires room { EachHasRoom (IsRoom self.now.board) rows.old }

@@ -1,4 +1,6 @@
-//! Laws of the walking test. Each law is the contract of a function that does nothing.
+//! Laws of the walking test. Each law is the contract of a function that does nothing. The walk setting is
+//! the first pass of the board's test without the controls of switching drivers. A switching driver is
+//! enabled by its own cell, on an unguarded net that is pulled to its disable value.
 ghost use Rattle.std.specs.Prelude.{ℕ, Bool, List, Option};
 ghost use Rattle.board_defs.specs.declared.board.RawBoard.{RawBoard};
 ghost use Rattle.board_defs.specs.BoardRules.{IsBoard};

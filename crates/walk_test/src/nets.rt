@@ -182,7 +182,7 @@ fn blank_rows(alloc: Global, board: &Board) -> Result<WalkRows, AllocError>
 /// Returns the parts of a walk, made from the pins of its board's nets and the first pass of its test. `pins` must be
 /// the pins of the board's nets, and the first of `passes` must be the first pass of the board's test. The rows have
 /// room, but are still empty: `fill_rows` fills them from the plan. All memory other than the plan's is allocated here.
-/// So nothing fails after `Walk::of` has made the plan, and no exit drops a plan.
+/// So nothing can fail after `Walk::of` has made the plan, and no return of an error has to drop a plan.
 pub fn walk_parts(
     alloc: Global,
     board: &Board,

@@ -19,8 +19,10 @@ use tap_defs::{ScanRows, Shape};
 
 /// The walking test of a board: its walk nets with their cells, and the rows that its scans share.
 ///
-/// The walk setting is the setting of the first pass of the board's test, but without the controls of switching drivers. The walk nets are
-/// the nets that the walk setting observes. A board without a pass has no walk nets.
+/// The walk setting is the setting of the first pass of the board's test, but without the controls of
+/// switching drivers. A switching driver is enabled by its own cell, on an unguarded net that is pulled to
+/// its disable value. The walk nets are the nets that the walk setting observes. A board without a pass has
+/// no walk nets.
 #[derive(Drop)]
 pub struct Walk {
     pub(crate) tables: WalkTables,

@@ -14,7 +14,7 @@ use std::alloc::{AllocError, Global};
 use std::marker::Model;
 
 /// A log, the cells of the nets whose rows the log has, and the mask of a row. Row `j` of the log is the row in which
-/// net `j` carries 1. The mask has a 1 at each compared position of these nets.
+/// the net at index `j` of `nets` carries 1. The mask has a 1 at each compared position of these nets.
 #[derive(Drop)]
 pub struct WalkLog<'a> {
     log: &'a Log,

@@ -52,7 +52,7 @@ net_suspects lists n k =
     ++ (flat_map (λ a. pair_suspects lists a k) (range_with_len 0 k)
     ++ flat_map (λ b. pair_suspects lists k b) (range_with_len (suc k) (length lists.nets - suc k))))
 
--- the index of a net in the list of covered nets, if the net has a code; the codes number the covered nets from 1
+-- the index of net n in the list of covered nets, or 0 if the net has no code; the codes number the covered nets from 1
 abbrev pub covered_place : PlanTables → ℕ → ℕ
 covered_place plan n = code_in plan n - 1
 

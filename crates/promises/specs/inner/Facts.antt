@@ -58,9 +58,9 @@ pub record IsRun (run : Run) : Type 0 where
       (λ c. IsComplete run.old.held c (SomeRose run.old.unread run.new.unread (names_in_command c))
       (Rose run.old.unwritten run.new.unwritten) run.status)
 
--- The same texts never give two different results. A result is a device, a chain's instruction lengths, a chain's identification patterns
--- or a board, or the first fault of the texts. A reading of a command's texts gives at most one outcome. If the reading is known, it gives
--- one.
+-- Two results of the same texts are equal. A result is a device, a chain's instruction lengths, a chain's
+-- identification patterns or a board, or the first fault of the texts. A reading of a command's texts gives
+-- at most one outcome. It gives one if `known_reading` returns this reading for the store.
 pub record SayOne : Type 0 where
   pub device : (text : Text) (a b : Result RawDevice InputFault) → IsDeviceText text a → IsDeviceText text b → a ≡ b
   pub chain : (chain : Text) (texts : List Text) (a b : Result (List ℕ) InputFault)

@@ -1,4 +1,5 @@
--- The controls of switching drivers, as the code finds them pin by pin.
+-- The controls of switching drivers, as the code finds them pin by pin. A switching driver is enabled by its
+-- own cell, on an unguarded net that is pulled to its disable value.
 use Rattle.std.specs.Prelude.{ℕ, ◌==◌, Bool, ◌&&◌, if◌then◌else◌, List, [], fold, Option, Some, None}
 use Rattle.board_defs.specs.declared.device.Control.{Control}
 use Rattle.board_defs.specs.declared.device.Cell.{Cell}
@@ -31,7 +32,8 @@ abbrev pub with_some : List Ctl → Option Ctl → List Ctl
 with_some setting None = setting
 with_some setting (Some c) = inserted c setting
 
--- adds to the setting the controls of the switching drivers among `pins`; `pull` is the pull of the pins' net
+-- Adds to the setting the controls of the switching drivers among `pins`, which must be pins of one unguarded net. `pull` is the pull of
+-- this net.
 abbrev pub with_pins : RawBoard → Option Bool → List Ctl → List NetPin → List Ctl
 with_pins board pull setting pins = fold (λ s pin. with_some s (pin_switch board pull pin.at)) setting pins
 

@@ -32,7 +32,8 @@ first_row board plan = code_row board plan.passes (slice_index_or plan.passes 0 
 abbrev pub cleared : List Bool → List NetCells → List Bool
 cleared bits cells = assigned (λ c. c.driver) (λ c. false) bits cells
 
--- the positions of the cells that read a pin other than the pin at this place
+-- the positions of the cells in `readers` that read a pin other than the pin at `place`, an index in the
+-- net's list of pins
 abbrev pub positions_beside : ℕ → List ReaderCell → List ℕ
 positions_beside place readers = map (λ r. r.position) (filter (λ r. not (r.place == place)) readers)
 
@@ -78,11 +79,11 @@ walk_controls (Some walk) = walk
 abbrev pub walk_row_of : RawBoard → ℕ → TestRow
 walk_row_of board j = walk_row board (walk_controls (walk_setting board)) j
 
--- the row that scan j after the EXTEST codes, counted from 0, shifts in
+-- The row that scan j after the EXTEST codes shifts in. The first of these scans is scan 0. `count` is the number of rows.
 abbrev pub now_of : RawBoard → ℕ → ℕ → TestRow
 now_of board count j = row_now (walk_row_of board) count j
 
--- the row that scan j after the EXTEST codes, counted from 0, compares
+-- the row that is in the update latches when scan j after the EXTEST codes captures; the first of these scans is scan 0
 abbrev pub before_of : RawBoard → ℕ → TestRow
 before_of board j = row_before (walk_row_of board) j
 
@@ -94,19 +95,20 @@ pub record BoardWalk : Type 0 where
 abbrev pub board_walk : RawBoard → WalkTables → BoardWalk
 board_walk board tables = record { board = board; tables = tables }
 
--- the bits that scan j after the EXTEST codes, counted from 0, shifts in
+-- the bits that scan j after the EXTEST codes shifts in; the first of these scans is scan 0
 abbrev pub shifted_in : BoardWalk → ℕ → List Bool
 shifted_in it j = tdi_of it.board (now_of it.board (length it.tables.nets) j)
 
--- the bits that scan j after the EXTEST codes, counted from 0, expects, with 0 at each position that the scan does not compare
+-- The bits that scan j after the EXTEST codes expects, with 0 at each position that the scan does not compare. The first of these scans is
+-- scan 0.
 abbrev pub walk_expected : BoardWalk → ℕ → List Bool
 walk_expected it j = tdo_of it.board (before_of it.board j)
 
--- a 1 for each position that scan j after the EXTEST codes, counted from 0, compares
+-- a row with a 1 at each position that scan j after the EXTEST codes compares; the first of these scans is scan 0
 abbrev pub walk_mask : BoardWalk → ℕ → List Bool
 walk_mask it j = mask_of it.board (before_of it.board j)
 
--- the cells at place j - 1 of the list, or `None` if j is 0
+-- the cells at index j - 1 of the list, or `None` if j is 0 or the list has no such item
 abbrev pub cells_before : List NetCells → ℕ → Option NetCells
 cells_before cells zero = None
 cells_before cells (suc j) = slice_get cells j
