@@ -37,7 +37,7 @@ fn expect(alloc: Global, row: usize, holds: bool) -> Result<(), CaseFault> {
     Err(CaseFault::Ended { case: row, found })
 }
 
-// What a table compares for each text.
+// The part of a text's result that a table compares: the device, the tokens, the listing or the entity.
 #[derive(Clone, Copy)]
 enum Shown {
     Device,
@@ -83,8 +83,8 @@ const OTHER_ENTITY: &str =
      3 port TDO\n4 port TMS\n5 port TCK\n6 number 2\n7 text BYPASS (11), EXTEST (00), SAMPLE (10)\n8 text 01\n\
      9 number 3\n10 text 0 (BC_1, Q(1), OUTPUT2, X),1 (BC_1, Q(2), OUTPUT2, X)\n";
 
-// What the check compares, two texts with their expected results, and the actual result of the second text. Only the first expected result
-// is right.
+// The part of the results that the helper compares, two texts with their expected results, and the actual
+// result of the second text. Only the first expected result is right.
 type Texts = (Shown, &'static [(Source, &'static str)], &'static str);
 
 static TEXTS: [Texts; 6] = [

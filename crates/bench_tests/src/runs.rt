@@ -33,7 +33,8 @@ const FEW_SCANS: &str =
 type Wrong = (&'static str, Ending<'static>, Status, Ending<'static>);
 
 static WRONG: [Wrong; 21] = [
-    // A wrong byte, an extra line, and a missing line.
+    // Wrong output: a wrong byte, an extra line, a missing line, another wrong byte, a missing scan, no lines
+    // around the scans, and a wrong length.
     (COVER, COVERED, Status::Done, UNCOVERED),
     (
         COVER,
@@ -84,6 +85,7 @@ static WRONG: [Wrong; 21] = [
     (WITHOUT_DRV, NO_DRV, Status::Refused, Ending::Puts("")),
     (WITHOUT_DRV, NO_DRV, Status::Refused, Ending::Long(0)),
     (WITHOUT_DRV, NO_DRV, Status::Refused, Ending::Usage),
+    // A failed read: a wrong refusal line, no refusal line, and a wrong status.
     (
         UNREAD,
         NOT_READ,

@@ -23,7 +23,8 @@ Walk text place line [] to last_line = (place ≡ to) × (line ≡ last_line)
 Walk text place line (token ∷ tokens) to last_line =
     (step text place line ≡ Ok (Some token)) × Walk text token.«end» token.line tokens to last_line
 
--- if the lexer's steps find these tokens and the next step has this result, `answer` is the answer to the text
+-- The lexer's steps find these tokens, and the next step has this result and ends the walk with `answer`. A
+-- step that finds another token ends the walk only after `token_limit` tokens.
 abbrev pub Ends : Result (Option Token) LexFault → List Token → Result (Unit {0}) LexFault → Type 0
 Ends (Ok None) tokens answer = answer ≡ Ok tt
 Ends (Ok (Some token)) tokens answer = (length tokens ≡ token_limit) × (answer ≡ Err (TooMany token.line))
@@ -45,7 +46,8 @@ pub record OnLine (text : List ℕ) (place line : ℕ) : Type 0 where
 pub at_start : (text : List ℕ) → OnLine text 0 1
 at_start text = record { within = omega arith; line_is = refl }
 
--- the token is the first token of the text at or after `place`
+-- The token is the first token of the text at or after `place`. It ends in the text, on the line where it
+-- begins, and after `place`.
 pub record IsNext (text : List ℕ) (place : ℕ) (token : Token) : Type 0 where
   pub gap : Separates text place token.start
   pub is : IsToken text token
@@ -99,8 +101,8 @@ pub walk_on : (text : List ℕ) (tokens : List Token) (place line to last_line :
 walk_on text [] place line to last_line token w e = (ap (λ n. step text n line) w.0 ∙ ap (step text to) w.1 ∙ e, (refl, refl))
 walk_on text (first ∷ tokens) place line to last_line token w e = (w.0, walk_on text tokens first.«end» first.line to last_line token w.1 e)
 
--- A walk from `place` on `line` finds these tokens and ends at `to`, on the line of `to`. There is only a gap (blanks
--- and comments) between `to` and `stop`.
+-- A walk from `place` on `line` finds these tokens and ends at `to`, on line `last_line`, which is the line
+-- of `to`. There is only a gap (blanks and comments) between `to` and `stop`.
 record Walked (text : List ℕ) (place line : ℕ) (tokens : List Token) (stop : ℕ) : Type 0 where
   to : ℕ
   last_line : ℕ

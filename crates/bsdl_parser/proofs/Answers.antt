@@ -65,8 +65,8 @@ stops_at before token after e (refused (r ∷ rest)) is more h =
         let again : read before ≡ refused (m ∷ middle) = ap read f ∙ h.again m rest middle (ap (λ t. t ∷ rest) same) in
         cc
 
--- the two results that the reader can have if `token` is the first stray token: it refuses `token`
--- inside a file, or it finds an entity in the tokens before `token`
+-- The two results that the reader can have if `token` is the first token that cannot continue a file. It
+-- refuses `token` inside a file, or it finds an entity in the tokens before `token`.
 pub data StrayRead (before : List Lexeme) (token : Lexeme) (after : List Lexeme) (o : Outcome Lexeme Entity) : Type 0 where
   inside : o ≡ refused (token ∷ after) → read before ≡ refused [] → StrayRead before token after o
   behind : (entity : Entity) → o ≡ found entity (token ∷ after) → read before ≡ found entity [] → StrayRead before token after o

@@ -20,7 +20,7 @@ use Rattle.bsdl_parser.specs.Bsdl.{used, plain_value, port_value, clock_value, n
 use Rattle.bsdl_parser.specs.Answer.{Derives}
 use Rattle.bsdl_parser.specs.Entity.{is_number_among, port_attributes, number_attributes, text_attributes, HasKind, HaveKinds}
 
--- `Fact` holds for each value that the phrase derives
+-- `Fact` holds for each value that the phrase derives; a phrase is a grammar of a part of a BSDL text
 abbrev Yields : {A : Type 0} → Phrase A → (A → Type 0) → Type 0
 Yields g Fact = (n : ℕ) → Keeps (λ token. 0) g n (λ m a. Fact a)
 

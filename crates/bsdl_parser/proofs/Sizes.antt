@@ -48,8 +48,8 @@ cost_some (x ∷ xs) = omega arith
 abbrev pub weight : Lexeme → ℕ
 weight token = cost token.spelled
 
--- if the phrase derives a value from tokens, the cost of the value is at most the total weight of
--- the tokens
+-- If the phrase, which is a grammar of a part of a BSDL text, derives a value from tokens, the cost of the
+-- value is at most the total weight of the tokens.
 abbrev Covers : {A : Type 0} → Phrase A → (A → ℕ) → Type 0
 Covers g cost_of = (n : ℕ) → Keeps weight g n (λ m a. n + cost_of a ≤ m)
 
@@ -74,7 +74,8 @@ text_cost n = keeps_place (λ token text e. (
     let fits : length token.spelled ≤ weight token = length-cost token.spelled in
     subst (λ xs. n + length xs ≤ n + weight token) same (omega arith)))
 
--- the cost of the items that a turn adds is at most the total weight of the tokens of the turn
+-- The cost of the items that a turn adds is at most the total weight of the turn's tokens. `n` is a bound for
+-- `base` plus the cost of the items before the turn.
 abbrev AddsTo : {A : Type 0} → (List A → Phrase (Turn (List A) (List A))) → (List A → ℕ) → Type 0
 AddsTo {A} turn cost_of =
     (base : ℕ) (before : List A) (n : ℕ) → base + cost_of before ≤ n

@@ -16,7 +16,8 @@ Derives tokens entity = (production_of file).Whole tokens entity
 abbrev pub BeginsFile : List Lexeme → Type 0
 BeginsFile tokens = (production_of file).Cut tokens
 
--- `before` is a prefix of some file, but `before` followed by `token` is not
+-- `tokens` consists of `before`, `token` and `after`; `before` is a prefix of some file, but `before`
+-- followed by `token` is not
 pub record IsStray (tokens before : List Lexeme) (token : Lexeme) (after : List Lexeme) : Type 0 where
   pub split : tokens ≡ before ++ token ∷ after
   pub begins : BeginsFile before

@@ -22,7 +22,8 @@ use Rattle.grammars.specs.Values.{some_if}
 use Rattle.bsdl_parser.specs.AttributeNumbers.{attribute_number}
 use Rattle.bsdl_parser.specs.Places.{Phrase, is_word_token, keyword, mark, either_word, either_mark, any_word, any_number, any_text, integer, mode, other_than, word_or_mark}
 
--- string = text { "&" text }, followed by the mark `close`; a text is one string token
+-- text ( "&" | close ), which is one turn of string = text { "&" text }, followed by the mark `close`; a text
+-- is one string token
 unfoldable pub string_piece : List ℕ → List ℕ → Phrase (Turn (List ℕ) (List ℕ))
 string_piece close before = do
   piece ← any_text
@@ -52,7 +53,7 @@ generic = do
   _ ← mark (codes ";")
   done text
 
--- word { "," word } ":"
+-- word ( "," | ":" ), which is one turn of word { "," word } ":"
 unfoldable pub port_name : List (List ℕ) → Phrase (Turn (List (List ℕ)) (List (List ℕ)))
 port_name before = do
   name ← any_word
@@ -89,7 +90,7 @@ group = do
   bounds ← range_of is_vector
   done (ports_of names direction bounds)
 
--- group { ";" group } ")"
+-- group ( ";" | ")" ), which is one turn of group { ";" group } ")"
 unfoldable pub port_group : List Port → Phrase (Turn (List Port) (List Port))
 port_group before = do
   ports ← group
@@ -204,7 +205,7 @@ value_of forms.Clock = clock_value
 value_of forms.Number = number_value
 value_of forms.Text = text_value
 
--- { any token but ";" } ";"
+-- any token but ";" | ";", which is one turn of { any token but ";" } ";"
 unfoldable pub skipped_token : Unit {0} → Phrase (Turn (Unit {0}) (Unit {0}))
 skipped_token before = do
   goes_on ← other_than (codes ";")
@@ -249,8 +250,8 @@ abbrev pub no_items : Items
 no_items = record { has_generic = false; fallback = None; has_port = false; ports = []; uses = []; constants = []; attributes = [] }
 
 -- The kind of item that the word begins, or None if no item begins with the word or this item may
--- not follow the items `before`. A file has at most one generic item and at most one port item, and
--- `end` may follow only both of them.
+-- not follow the items `before`. A file has at most one generic item and at most one port item. The
+-- word `end` begins no item but ends them, and both of these items must come before it.
 abbrev pub item_word : Items → List ℕ → Option ItemWord
 item_word before word =
     if bytes_eq word (codes "GENERIC") then some_if (not before.has_generic) words.Generic else
@@ -282,7 +283,7 @@ item_after before words.Attribute = do
   done (again (record before { attributes = before.attributes ++ listed one }))
 item_after before words.End = done (last before)
 
--- item = generic | port | use | constant | attribute; the word "end" instead of an item ends the items
+-- one turn of { item } "end", in which item = generic | port | use | constant | attribute
 unfoldable pub item : Items → Phrase (Turn Items Items)
 item before = do
   first ← item_begin before

@@ -1,4 +1,4 @@
-//! The items of an entity that a cursor has read, and the kinds of items.
+//! The items of an entity that a cursor has read, the kinds of items, and the forms of attribute values.
 use crate::entity::{Attr, Constant, Port};
 use board_defs::Name;
 

@@ -32,7 +32,7 @@ pub struct Constant {
 /// The value of an attribute, as far as this program uses it.
 #[derive(Drop)]
 pub enum AttrValue {
-    /// The value of PIN_MAP, which has only one possible value.
+    /// The value of PIN_MAP, which is always PHYSICAL_PIN_MAP.
     Plain,
     /// The value of a TAP attribute: the name of its port.
     Port(Name),

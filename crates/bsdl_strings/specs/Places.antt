@@ -68,7 +68,7 @@ is_code_piece piece = nat_lt 0 (length piece) && list_all is_symbol piece
 abbrev pub code_of : List ℕ → List Symbol
 code_of piece = map symbol_of (reverse piece)
 
--- the function with this name, which is in upper case
+-- the cell function with this name, which is in upper case, or None if no function has it
 abbrev pub role_of : List ℕ → Option Role
 role_of word =
     if bytes_eq word (codes "INPUT") then Some roles.Input else

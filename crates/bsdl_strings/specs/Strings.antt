@@ -45,8 +45,9 @@ opcode = do
   codes ← list_of code comma_or_close
   done (record { name = name; codes = codes })
 
--- A place is the port of an entry, or `*` if the entry has none. The rest of a place after its port name and the next
--- mark. After "(" the rest is index ")" ",". After "," nothing more is read.
+-- The rest of a place after its port name and the next mark. A place is the port of an entry, or `*` if the
+-- entry has none. The flag is true if the mark is "(". The rest is then index ")" ",". If the mark is ",", nothing
+-- more is read.
 abbrev pub indexed : List ℕ → Bool → Part PortWord
 indexed name false = done (Plain name)
 indexed name true = do
@@ -70,9 +71,9 @@ port_place = do
   first ← word_or_star
   rest_of_place first
 
--- A control is the last part of an entry: a control cell, a disable value and a disable result, if the entry has them.
--- The rest of a control after its first mark. After "," the rest is index "," value "," result ")". After ")" nothing
--- more is read.
+-- The rest of a control after its first mark. A control is the last part of an entry: a control cell, a
+-- disable value and a disable result, if the entry has them. After "," the rest is index "," value "," result
+-- ")". After ")" nothing more is read. The disable result is not part of the value.
 abbrev pub control_of : Bool → Part (Option Control)
 control_of false = done None
 control_of true = do
@@ -110,7 +111,8 @@ entry = do
   ctl ← control
   done (record { num = num; port = port; role = role; safe = safe; ctl = ctl })
 
--- the rest of a compliance bit after its port name and the next mark
+-- The rest of a compliance bit after its port name and the next mark. After "(" the rest is index ")" and a
+-- comma or ")". After any other mark nothing more is read. The second value is true if another bit follows.
 abbrev pub bit_behind : List ℕ → Option Bool → Part (PortWord × Bool)
 bit_behind name (Some more) = done (Plain name, more)
 bit_behind name None = do

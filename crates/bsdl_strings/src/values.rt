@@ -16,7 +16,7 @@ pub struct Opcode {
     pub codes: Items<Code>,
 }
 
-/// A port bit as a string names it.
+/// A word of a string that names a port bit, or `*` for no port bit.
 #[derive(Debug, Drop)]
 pub enum PortWord {
     /// `*`, which means that the cell has no port.

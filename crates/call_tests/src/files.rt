@@ -38,7 +38,7 @@ static CHAIN_FILES: [Answer; 39] = [
     // A carriage return is a blank, and does not end a line.
     (b"BYPASS U1 2\rBYPASS U2 2", "line 1: no statement"),
     (b"BYPASS\rU1\r2\r", ""),
-    // UTF-16, with either order of bytes.
+    // UTF-16 in either byte order.
     (b"\xff\xfeI\0N\0E\0R\0T\0 \0R\0", "line 1: no statement"),
     (b"\xfe\xff\0I\0N\0E\0R\0T\0 \0R", "line 1: no statement"),
     // Lengths at the limits and beyond them, and the bytes just below and above the digits in ASCII.

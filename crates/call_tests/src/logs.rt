@@ -1,4 +1,6 @@
-// Tests of reading a response log, and a batch of logs, from a text. The expected values are worked out by hand.
+// Tests of reading a response log, and a batch of logs, from a text. A batch has a block for each board: a
+// title line, which is the word BOARD and the board's id, and the lines of the board's log. The expected
+// values are worked out by hand.
 ghost use Rattle.std.specs.Prelude.{◌<◌, ◌^◌, length};
 
 use crate::missed::{Missed, expect};

@@ -1,4 +1,5 @@
-// Tests of the words of a line, of the codes that nets carry in a test, and of settings, names and bit patterns.
+// Tests of the words of a line, of the codes that nets carry in a test, and of settings (sets of enabled
+// controls), names and bit patterns.
 use crate::missed::{Missed, expect};
 use board_defs::{Code, Ctl, Name, Setting, Symbol};
 use counting_codes::{bit, width};

@@ -1,4 +1,5 @@
--- Lemmas about the command that the name and the rows of a subcommand give.
+-- Lemmas about the command that the name and the rows of a subcommand give. A row has the values that `clap`
+-- found for one argument.
 use Rattle.std.proofs.Common.{◌≡◌, refl, sym, ap, ◌∙◌, Bool, true, false, List, codes, Option, Some, None}
 use Rattle.std.specs.Prelude.{option_map, if◌then◌else◌}
 use Rattle.std.specs.Str.{bytes_eq}

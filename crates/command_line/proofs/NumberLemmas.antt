@@ -15,7 +15,8 @@ Digits word = list_all is_ascii_digit word ≡ true
 numerals : IsNumeralModel Digits (digits_value 10)
 numerals = numerals_by_value Digits (search rules)
 
--- A word of `len` bytes with this value denotes a number from 1 to `most`. `digits` says whether the word has only digits.
+-- A word of `len` bytes with this value denotes a number from 1 to `most`: it has 1 to 20 bytes, and only
+-- digits. `digits` says whether it has only digits.
 abbrev is_number : Bool → ℕ → ℕ → ℕ → Bool
 is_number digits most len value = digits && is_within 1 20 len && is_within 1 most value
 

@@ -1,6 +1,6 @@
 -- Lemmas about the command that `clap` finds in words that are not flags. A walk is the state of
 -- `clap` after it has read some words. The shape of a command is the record of its arguments and
--- settings.
+-- settings. A row has the values that `clap` found for one argument.
 use Rattle.std.proofs.Common.{◌≡◌, refl, sym, ap, subst, ◌∙◌, true, false, Bool, List, [], ◌∷◌, ◌++◌, codes, ℕ, cond, Option, Some, None, inl, inr, ◌⊎◌, append_assoc, append-nil}
 use Rattle.std.specs.Prelude.{fold, is_some, not, ◌||◌, find, unwrap_or, option_map, option_and_then, length, nat_le, if◌then◌else◌, slice_get}
 use Rattle.std.specs.List.{list_all}
@@ -52,8 +52,8 @@ shape_in app = unwrap_or (slice_get (built (with_subcommand top_app app.top)).su
 abbrev many_app : Text → List Text → App
 many_app name words = with_rule (worded_app name words) names_rule
 
--- the faults that `clap` finds in the program's command at the end, if `w` is the walk after all
--- words
+-- the faults that `clap` finds in the program's command after reading the last word, if `w` is the walk
+-- after all words
 abbrev whole_fault : Turns → Kinds
 whole_fault w = end_fault top w (is_some (entered built_app w.stopped)) (entered_fault built_app w.stopped)
 
@@ -93,8 +93,8 @@ record Enters (name : Text) (shape : Shape) : Type 0 where
   finds : (rest : List Text) → entered built_app (Some (name, rest)) ≡ Some (name, rows_after shape.rules [] rest)
   no_trail : list_all (λ a. not a.trailing_var_arg) shape.rules ≡ true
 
--- if each word goes to the positional argument at its position, `read` finds in the rows the
--- command that `command` makes of the words
+-- If each word goes to the positional argument at its position, `clap` puts the words into rows. `read` then
+-- finds in these rows the command that `command` returns for the words, or None if `clap` finds a fault.
 abbrev Reads : Shape → (List Row → Option Command) → (List Text → Option Command) → Type 0
 Reads shape read command = (words : List Text) → placed_from shape read start words ≡ command words
 
@@ -156,7 +156,7 @@ chain_read name command (file ∷ x ∷ rest) =
     (chain_takes name file) [] x rest
     ∙ ap (option_map command) (few_names (λ bsdl. record { chain = file; bsdl = bsdl }) (x ∷ rest))
 
--- the shape of a command that takes one word, for any name of the command and of its argument
+-- the shape of the command `name`, if it takes one argument, which has the name `id`
 abbrev single_shape : Text → Text → Shape
 single_shape name id = shape_in (worded_app name (id ∷ []))
 
@@ -172,7 +172,7 @@ make_read [] = refl
 make_read (number ∷ []) = refl
 make_read (number ∷ other ∷ others) = refl
 
--- the shape of a command that works on a board, for any name of the command
+-- the shape of the command `name`, if it works on a board
 abbrev board_shape : Text → Shape
 board_shape name = shape_in (many_app name board_words)
 

@@ -1,5 +1,6 @@
--- Lemmas which say that `clap` gives the plain words of a command to its positional arguments in
--- turn. A walk is the state of `clap` after it has read some words.
+-- Lemmas which say that `clap` gives the plain words of a command, which are not flags, to its positional
+-- arguments in turn. A walk is the state of `clap` after it has read some words. A row has the values that
+-- `clap` found for one argument.
 use Rattle.std.proofs.Common.{◌≡◌, refl, sym, ap, subst, ◌∙◌, true, false, Bool, List, [], ◌∷◌, ◌++◌, codes, cond, ℕ, Option, Some, None, append_assoc}
 use Rattle.std.specs.Prelude.{find, fold, not}
 use Rattle.std.specs.List.{list_all}
@@ -16,7 +17,7 @@ use Rattle.clap.proofs.OnLiterals.{clap_on_literals}
 use Rattle.command_line.specs.Words.{Command}
 use Rattle.command_line.proofs.PlainLemmas.{AllPlain, before, placed, plain_turn, plain_walked}
 
--- the faults that `clap` finds at the end of the words of a command, if `w` is the walk at the end
+-- the faults that `clap` finds in a command after reading its last word, if `w` is the walk after all words
 abbrev pub end_fault : Shape → Walk → Bool → Kinds → Kinds
 end_fault s w has_subcommand below =
     or_else below (or_else (settle_fault s.rules s.args_override_self w.held)
@@ -131,7 +132,8 @@ at_names front position names name =
     (record { rows = front ++ names_row names; pending = Some (codes "BSDL", name ∷ []); skip = 0 })
     position
 
--- after these names are read, the walk can take one more name, and it can end without a fault
+-- After these names are read, the walk can take one more name, and it can end without a fault. If it ends,
+-- its rows are `front` and the row of all these names.
 pub record TakesName (s : Shape) (front : List Row) (position : ℕ) (names : List Text) (name : Text) : Type 0 where
   pub step : (next : Text) → placed s.rules (at_names front position names name) next ≡ at_names front position (names ++ name ∷ []) next
   pub passes : step_fault s position (at_names front position names name).held value ≡ []

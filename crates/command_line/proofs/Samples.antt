@@ -133,7 +133,7 @@ most_names = record { chain = codes "c"; nets = codes "n"; bsdl = replicate 255 
 abbrev most_logged : LogNames
 most_logged = record { log = codes "g"; board = most_names }
 
--- three commands with `count` BSDL names each
+-- the results of `command_of` for three commands with `count` BSDL names each
 abbrev with_described : ℕ → List (Option Command)
 with_described count =
     map command_of

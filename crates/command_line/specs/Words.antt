@@ -72,7 +72,7 @@ board_names_of [] = None
 board_names_of (chain ∷ []) = None
 board_names_of (chain ∷ nets ∷ names) = with_names names (record { chain = chain; nets = nets; bsdl = names })
 
--- the names that these words give: a file of response logs, then the file names of its board;
+-- the names that these words give: the name of a file of response logs, then the file names of its board;
 -- `None` if there are fewer than three words or more than 255 BSDL names
 abbrev pub log_names_of : List Text → Option LogNames
 log_names_of [] = None
@@ -100,15 +100,16 @@ diagnose_of words = worked_of Diagnose words
 abbrev pub batch_of : List Text → Option Command
 batch_of words = worked_of Batch words
 
--- the command with this name and these words, if the name is `diagnose`, `groups` or `batch`; these
--- commands read response logs
+-- The command with this name and these words, if the name is `diagnose`, `groups` or `batch`; these
+-- commands read response logs. `None` for any other name, or if the words do not fit.
 unfoldable pub log_called : Text → List Text → Option Command
 log_called word rest =
     if bytes_eq (codes "diagnose") word then diagnose_of rest else
     if bytes_eq (codes "groups") word then option_map Groups (log_names_of rest) else
     if bytes_eq (codes "batch") word then batch_of rest else None
 
--- the command with this name and these words, for all names except `chain`, `ident` and `device`
+-- The command with this name and these words, for all names except `chain`, `ident` and `device`. `None` for
+-- these and for unknown names, or if the words do not fit.
 unfoldable pub board_called : Text → List Text → Option Command
 board_called word rest =
     if bytes_eq (codes "cover") word then option_map Cover (board_names_of rest) else

@@ -231,8 +231,8 @@ fn no_taps(alloc: Global) -> TapPorts {
     }
 }
 
-/// Returns a draft that has no contents, except that its instruction register has 2 bits. A draft is a device as a BSDL text states it,
-/// before its rules are checked.
+/// Returns a draft of the old edition with an instruction register of 2 bits and no other contents. A draft
+/// is a device as a BSDL text states it, before its rules are checked.
 fn empty_draft(alloc: Global) -> Draft {
     Draft {
         entity: no_name(alloc),

@@ -114,7 +114,7 @@ fn described(alloc: Global, case: usize, source: &Source) -> Result<Device, Case
     }
 }
 
-/// Returns the error for a case whose result is `found`.
+/// Returns the error for a case with the wrong result `found`, written as text. If memory ran out for this text, returns that error.
 fn ended(case: usize, found: Result<String, AllocError>) -> CaseFault {
     match found {
         Ok(found) => CaseFault::Ended { case, found },

@@ -1,4 +1,5 @@
--- V1 reports the lowest number of an attribute or pin map that breaks it.
+-- Rule V1 reports the lowest number of an item that breaks it. The items are the attributes, and the pin map with
+-- number 15.
 use Rattle.std.proofs.Common.{◌≡◌, ℕ, zero, suc, ◌+◌, arith, List, Bool, true, false, not, if◌then◌else◌, Option, Some, None, Result, Ok, Err, refl, sym, ◌∙◌, ap, subst}
 use Rattle.std.specs.Prelude.{is_none, option_map}
 use Rattle.board_defs.specs.Limits.{most_bits, most_instruction_bits}

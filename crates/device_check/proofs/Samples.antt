@@ -52,7 +52,7 @@ broken_with attributes = broken (entity attributes) None
 none_given : broken_with [] ≡ 1 ∷ 2 ∷ 3 ∷ 4 ∷ 5 ∷ 6 ∷ 7 ∷ 8 ∷ 9 ∷ 10 ∷ []
 none_given = refl
 
--- the order of the attributes does not matter
+-- the optional attributes may be missing, and the order of the attributes does not matter
 given_once : broken_with (needed 2 1) ∷ broken_with (optional (codes "STD_1149_1_1990") ++ needed 2 1) ∷ [] ≡ [] ∷ [] ∷ []
 given_once = refl
 
@@ -81,7 +81,7 @@ given_package = refl
 no_default : map (broken (record (entity (needed 2 1)) { fallback = None })) (None ∷ Some (codes "R") ∷ []) ≡ (15 ∷ []) ∷ [] ∷ []
 no_default = refl
 
--- an entity has exactly one pin map for the package
+-- an entity must have exactly one pin map for the package
 pin_maps : map (λ constants. broken (record (entity (needed 2 1)) { constants = constants }) None)
     ([] ∷ (pin_map (codes "R") ∷ []) ∷ (pin_map (codes "P") ∷ pin_map (codes "R") ∷ pin_map (codes "P") ∷ []) ∷ [])
     ≡ (15 ∷ []) ∷ (15 ∷ []) ∷ (15 ∷ []) ∷ []

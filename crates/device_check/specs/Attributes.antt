@@ -46,11 +46,11 @@ text_in (values.Port port) = None
 text_in (values.Number number) = None
 text_in (values.Text text) = Some text
 
--- the port that is the attribute's value, if the value is a port
+-- the port that is the attribute's first value, if the entity has the attribute and this value is a port
 abbrev pub port_of_attribute : Entity → Attribute → Option (List ℕ)
 port_of_attribute entity attribute = option_and_then port_in (value_of_attribute entity attribute)
 
--- the string that is the attribute's value, if the value is a string
+-- the string that is the attribute's first value, if the entity has the attribute and this value is a string
 abbrev pub text_of_attribute : Entity → Attribute → Option (List ℕ)
 text_of_attribute entity attribute = option_and_then text_in (value_of_attribute entity attribute)
 

@@ -69,7 +69,7 @@ abbrev pub pin_text : Option (List ℕ) → List ℕ
 pin_text None = []
 pin_text (Some pin) = whole (codes " " ∷ pin ∷ [])
 
--- the pins of the bits of a port, or ` -` if no bit has a pin
+-- the pins of the bits of a port, each after a space, or ` -` if no bit has a pin
 abbrev pub pins_text : List PortBit → List ℕ
 pins_text bits = if list_any (λ bit. is_some bit.pin) bits then flat_map (λ bit. pin_text bit.pin) bits else codes " -"
 
@@ -91,7 +91,7 @@ abbrev pub index_text : Option ℕ → List ℕ
 index_text None = []
 index_text (Some index) = whole (codes "(" ∷ decimal index ∷ codes ")" ∷ [])
 
--- a port bit: the name of its port, followed by its index
+-- a port bit: the name of its port, followed by its index; no text if there is no bit
 abbrev pub bit_text : List (List ℕ) → Option PortBit → List ℕ
 bit_text ports None = []
 bit_text ports (Some bit) = name_of_port ports bit.port ++ index_text bit.index
@@ -101,7 +101,8 @@ abbrev pub place_text : List (List ℕ) → List PortBit → Option ℕ → List
 place_text ports bits None = codes "*"
 place_text ports bits (Some bit) = bit_text ports (slice_get bits bit)
 
--- the control cell of an entry and the disable value, or no text if the entry has no control
+-- the control cell of an entry and the disable value, each after a space, or no text if the entry has no
+-- control
 abbrev pub control_text : Option Control → List ℕ
 control_text None = []
 control_text (Some control) = whole (codes " " ∷ decimal control.cell ∷ codes " " ∷ bit_word control.disable ∷ [])

@@ -52,8 +52,8 @@ unless_bad (Some attribute) next = Err (sources.Attribute attribute)
 unless_bad None next = next
 
 -- The ports that the four mandatory TAP attributes name. PIN_MAP is checked before them. The error
--- is the first of these attributes that the entity does not have exactly once, or whose value has
--- the wrong kind.
+-- is the first of these five attributes that the entity does not have exactly once, or the first
+-- TAP attribute whose value has the wrong kind, whichever comes first.
 unfoldable pub found_taps : Entity → Result FoundTaps Source
 found_taps entity =
     need (sources.Attribute PinMap) (only_value entity PinMap) (λ _.
@@ -69,8 +69,8 @@ within least most None = None
 within least most (Some number) = if nat_le least number && nat_le number most then Some number else None
 
 -- The values of the attributes of the two registers. The error is the first of these attributes
--- that the entity does not have exactly once, whose value has the wrong kind, or whose length is
--- out of range.
+-- that the entity does not have exactly once, or whose value has the wrong kind or is a length that
+-- is out of range.
 unfoldable pub found_registers : Entity → Result FoundRegisters Source
 found_registers entity =
     need (sources.Attribute InstructionLength)

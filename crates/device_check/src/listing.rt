@@ -163,7 +163,8 @@ fn has_pins(bits: &[PortBit]) -> bool
     bits.iter().any(|bit| bit.pin.is_some())
 }
 
-/// Prints the pins of the bits, in the order of the list.
+/// Prints the pins of the bits, each after a space, in the order of the list. Prints nothing for a bit
+/// without a pin.
 fn print_each_pin<K: Sink>(bits: &[PortBit], line: &mut Line, out: &mut K) -> Result<(), PutFault>
     ensures { Prints (K.shown out.old) (K.shown out.new) line.old line.new
         (flat_map (λ bit. pin_text bit.pin) bits.now) result }
@@ -174,7 +175,7 @@ fn print_each_pin<K: Sink>(bits: &[PortBit], line: &mut Line, out: &mut K) -> Re
     Ok(())
 }
 
-/// Prints the pins of a port, or `-` if the port has no pins.
+/// Prints the pins of a port, each after a space, or ` -` if the port has no pins.
 fn print_pins<K: Sink>(bits: &[PortBit], line: &mut Line, out: &mut K) -> Result<(), PutFault>
     ensures { Prints (K.shown out.old) (K.shown out.new) line.old line.new (pins_text bits.now)
         result }
@@ -346,7 +347,8 @@ fn print_place<K: Sink>(
     }
 }
 
-/// Prints the control cell of an entry and the disable value, if the entry has a control.
+/// Prints the control cell of an entry and the disable value, each after a space. Prints nothing if the
+/// entry has no control.
 fn print_control<K: Sink>(
     control: Option<Control>,
     line: &mut Line,
@@ -378,7 +380,7 @@ fn begin_cell<K: Sink>(num: u32, role: Role, line: &mut Line, out: &mut K) -> Re
     )
 }
 
-/// Prints the safe value of an entry.
+/// Prints a space and the safe value of an entry.
 fn print_safe<K: Sink>(safe: Symbol, line: &mut Line, out: &mut K) -> Result<(), PutFault>
     ensures { Prints (K.shown out.old) (K.shown out.new) line.old line.new
         (whole (codes " " ∷ symbol_word safe ∷ [])) result }
@@ -466,9 +468,9 @@ fn put_block<K: Sink>(
     )
 }
 
-/// Writes the lines of all cells, block by block. Each block takes one pass over the list of
-/// entries, so the time does not depend on the order of the list. No cell may have more than two
-/// entries, and the register may have at most 65,535 cells.
+/// Writes the lines of all cells, block by block. A block is up to `BLOCK` consecutive cells. Each
+/// block takes one pass over the list of entries, so the time does not depend on the order of the
+/// list. No cell may have more than two entries, and the register may have at most 65,535 cells.
 fn put_blocks<K: Sink>(device: &RawDevice, line: &mut Line, out: &mut K) -> Result<(), PutFault>
     requires few { (num : ℕ) → length (entries_of_cell num device.now.cells) ≤ 2 }
     requires most { device.now.boundary ≤ most_bits }
@@ -486,7 +488,7 @@ fn put_blocks<K: Sink>(device: &RawDevice, line: &mut Line, out: &mut K) -> Resu
 }
 
 /// Returns whether the entries are in the order of their cells, and all cell numbers are below
-/// `most`.
+/// `most`. The contract allows a wrong false, which would only cost time.
 fn are_in_order(cells: &[Cell], most: u32) -> bool
     ensures { result ≡ true → Climbs 0 most cells.now }
 {
@@ -570,9 +572,9 @@ fn put_listing<K: Sink>(device: &RawDevice, line: &mut Line, out: &mut K) -> Res
 }
 
 /// Writes the listing of a device: its names, its instructions, its ports with their pins, and the
-/// entries of its boundary register in the order of the cell numbers. Writes each line in one call
-/// of `put`. Writes a line of more than `MAX_LINE` bytes in pieces of `MAX_LINE` bytes and the
-/// rest. Allocates nothing; `line` is a buffer whose contents afterwards are unspecified. Fails
+/// entries of its boundary register in the order of the cell numbers. Writes each line of at most
+/// `MAX_LINE` bytes in one call of `put`. Writes a longer line in pieces of `MAX_LINE` bytes and a
+/// last piece with the rest. Allocates nothing; `line` is a buffer whose contents afterwards are unspecified. Fails
 /// only if the sink fails, after a prefix of the listing.
 pub fn write_device<K: Sink>(device: &Device, line: &mut Line, out: &mut K) -> Result<(), PutFault>
     ensures { Puts (K.shown out.old) (K.shown out.new) (device_text device.now) result }

@@ -28,8 +28,8 @@ impl Entries {
     }
 }
 
-/// Adds an entry to the place of its cell in the table, if the cell is in the block that begins
-/// with cell `from`. This place must have fewer than two entries.
+/// Adds an entry to the place of its cell, if the table has one. Place `k` of the table belongs to
+/// cell `from + k`. The cell's place must have fewer than two entries.
 fn add_entry(cell: Cell, from: u32, table: &mut [Entries])
     requires { (k : ℕ) → k < length table.old → cell.num ≡ from + k
         → length (entries_in (slice_index_or table.old k Entries.Nothing)) < 2 }

@@ -48,7 +48,8 @@ pub struct Needed<'a> {
 }
 
 /// Returns the ports of the four mandatory TAP attributes. Checks PIN_MAP before them. The error is
-/// the first of these attributes that is missing, repeated or has a value of the wrong kind.
+/// the first of these five attributes that is missing or repeated, or the first TAP attribute whose
+/// value has the wrong kind, whichever comes first.
 #[tactic(auto, unfolding(crate::specs::Needed::found_taps))]
 fn needed_taps(entity: &Entity) -> Result<NeededTaps<'_>, Source>
     ensures { Says taps_view (found_taps entity.now) result }
@@ -178,9 +179,9 @@ fn needed_package<'a>(entity: &'a Entity, package: Option<&'a [u8]>) -> Option<N
     })
 }
 
-/// Checks rule V1. Returns the values that the entity must have. The error is the first attribute
-/// that breaks the rule. If no attribute breaks it, the error is the pin map of the package, if it
-/// is missing or not unique.
+/// Checks rule V1. Returns the values that the entity must have. The error is the attribute with the
+/// lowest number that breaks the rule. If no attribute breaks it, the error is the pin map of the
+/// package, if it is missing or not unique.
 #[tactic(auto, unfolding(crate::specs::Needed::v1))]
 pub(crate) fn find_needed<'a>(
     entity: &'a Entity,

@@ -238,7 +238,7 @@ const OTHER_DEVICES: [Run; 8] = [
         ),
         Ending::PutsAll(Edited(RCV1_LISTING, &[("INPUT D", "INPUT D(0)")])),
     ),
-    // The cell functions that no device of `run_bench` has.
+    // The cell functions CLOCK, OBSERVE_ONLY, INTERNAL and CONTROLR.
     (
         Edited(
             RCV,

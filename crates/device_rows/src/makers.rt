@@ -98,7 +98,7 @@ const CODES_AND_PINS: [Change; 3] = [
     ("TDI:T1", "TDI:(T1,T9)", ": rule V4 item 1"),
 ];
 
-// The text names the edition of 2013 or of 1994 and not that of 2001, but its code of EXTEST is not all zeros.
+// The text names the 2013 or the 1994 edition instead of the 2001 edition, but its EXTEST code is not all zeros.
 const NOT_OF_2001: [Run; 2] = [
     (
         Edited(

@@ -88,8 +88,8 @@ none_else : {A : Type 0} (o : Option A) → or_else o None ≡ o
 none_else None = refl
 none_else (Some a) = refl
 
--- the number of the bit with this name and index, found port by port; the bits are numbered from
--- `start` on
+-- The number of the bit with this name and index, found port by port, or None if there is no such bit.
+-- The bits are numbered from `start` on.
 abbrev located : List ℕ → Option ℕ → ℕ → List Port → Option ℕ
 located name at start [] = None
 located name at start (port ∷ ports) =
@@ -170,7 +170,8 @@ nowhere name at start (port ∷ ports) e =
     nowhere_by name at start port ports (bytes_eq port.name name)
     (λ none. nowhere name at (start + width port.range) ports none) e
 
--- `b` says whether `port` has the name. Port `n` of the list `port ∷ ports` is the first port with the name.
+-- `b` says whether `port` has the name. If port `n` of the list `port ∷ ports` is the first port with the
+-- name, `located` adds the number of bits before port `n` to the place of the index in its range.
 there_by : (name : List ℕ) (at : Option ℕ) (start n : ℕ) (d port : Port) (ports : List Port) (b : Bool)
     → ((m : ℕ) → position_from (port_named name) 0 ports ≡ Some m
     → located name at (start + width port.range) ports
@@ -357,7 +358,7 @@ pub found_item : {A : Type 0} (p : A → Bool) (xs : List A) (n : ℕ) (x : A)
     → position_from p 0 xs ≡ Some n → get_or xs n x ≡ x → Some x ≡ find p xs
 found_item p xs n x e is = sym (slice_get-get_or xs n x (number_below p xs n e) ∙ ap Some is) ∙ found_at p xs n e
 
--- the number of the bit with this name and index
+-- the number of the bit with this name and index, or None if there is no such bit
 abbrev bit_by : List Port → List ℕ → Option ℕ → Option ℕ
 bit_by ports name at = position_from (is_bit_named name at) 0 (all_port_bits ports)
 

@@ -193,7 +193,8 @@ idcode_long ir capture idcode e = by_tests (has_length ir capture && ends_in_01 
         by_length false is n = cc n
 
 -- The EXTEST code has `ir` symbols. None of them is X, and not all of them are 1. The code differs
--- from the preload code. In the old edition, all of its symbols are 0.
+-- from the preload code. In the old edition, which is any edition before that of 2001, all of its
+-- symbols are 0.
 record ExtestStands (edition : Edition) (ir : ℕ) (ops : List Opcode) : Type 0 where
   long : length (extest edition ir ops) ≡ ir
   given : All (λ s. s ≢ Any) (extest edition ir ops)

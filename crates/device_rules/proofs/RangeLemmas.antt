@@ -14,7 +14,8 @@ use Rattle.bsdl_parser.specs.declared.entity.Range.{Range}
 use Rattle.device_rules.specs.Ports.{range_in_order, width, indexes, has_index}
 use Rattle.device_rules.specs.inner.Index.{index_place, index_at}
 
--- the first place of the index `i` in a list of indexes, if places are numbered from `n` on
+-- the first place of the index `i` in a list of indexes, or None if the list lacks it; places are numbered
+-- from `n` on
 abbrev place_of : ℕ → ℕ → List ℕ → Option ℕ
 place_of i n indexes = position_from (is_on i) n (map Some indexes)
 

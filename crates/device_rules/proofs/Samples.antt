@@ -55,14 +55,14 @@ no_ports = record {
     each zero within = refl
     each (suc n) within = absurd (omega (arith, within))
 
--- Places of indexes at both ends of a range and just outside it. A port without a range has no bit with an index, and a
--- vector has no bit without one.
+-- places of indexes at both ends of a range and just outside it
 places : index_place falling (Some 7) ∷ index_place falling (Some 0) ∷ index_place falling (Some 8)
     ∷ index_place rising (Some 2) ∷ index_place rising (Some 4) ∷ index_place rising (Some 1)
     ∷ index_place rising (Some 5) ∷ []
     ≡ Some 0 ∷ Some 7 ∷ None ∷ Some 0 ∷ Some 2 ∷ None ∷ None ∷ []
 places = refl
 
+-- a port without a range has one bit, without an index; a vector has no bit without an index
 plain_places : index_place None None ∷ index_place None (Some 0) ∷ index_place rising None ∷ [] ≡ Some 0 ∷ None ∷ None ∷ []
 plain_places = refl
 
@@ -74,6 +74,8 @@ numbers : map (bit_number ports)
     ≡ Some 0 ∷ Some 7 ∷ Some 8 ∷ Some 9 ∷ Some 11 ∷ []
 numbers = refl
 
+-- words that name no bit: `*`, a vector without an index, a port bit with an index that it does not have, an
+-- index outside the range, and a port that does not exist
 no_numbers : map (bit_number ports)
     (Star ∷ Plain (codes "D") ∷ Index (codes "C") 0 ∷ Index (codes "Q") 5 ∷ Plain (codes "E") ∷ [])
     ≡ None ∷ None ∷ None ∷ None ∷ None ∷ []

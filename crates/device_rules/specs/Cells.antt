@@ -13,7 +13,8 @@ use Rattle.instruction_rules.specs.Instructions.{same_bit}
 abbrev pub is_entry_of : ℕ → Entry → Bool
 is_entry_of cell entry = entry.num == cell
 
--- the cell number of the first entry whose cell number is at least `boundary`, the length of the register
+-- the cell number of the first entry whose cell number is at least `boundary`, the length of the register;
+-- None if there is no such entry
 abbrev pub too_large : ℕ → List Entry → Option ℕ
 too_large boundary entries = option_map (λ entry. entry.num) (find (λ entry. nat_le boundary entry.num) entries)
 

@@ -52,12 +52,12 @@ abbrev pub listed_name : Option (List ℕ) → List (List ℕ)
 listed_name None = []
 listed_name (Some name) = name ∷ []
 
--- the names of the TAP ports
+-- the names of the TAP ports: TDI, TDO, TMS, TCK and, if the device has one, TRST*
 abbrev pub tap_names : TapPorts → List (List ℕ)
 tap_names taps = four_taps taps ++ listed_name taps.reset
 
--- the number of the first TAP attribute that breaks the rule: TAP_SCAN_IN, TAP_SCAN_OUT, TAP_SCAN_MODE, TAP_SCAN_CLOCK or
--- TAP_SCAN_RESET
+-- the number of the first TAP attribute that breaks the rule, in the order TAP_SCAN_IN, TAP_SCAN_OUT,
+-- TAP_SCAN_MODE, TAP_SCAN_CLOCK, TAP_SCAN_RESET; None if each keeps it
 abbrev pub wrong_tap : List Port → TapPorts → Option ℕ
 wrong_tap ports taps =
     or_else (broken_by (attribute_number TapScanIn) (breaks_tap is_inward ports [] taps.scan_in))

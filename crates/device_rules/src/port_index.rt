@@ -54,9 +54,9 @@ fn place_in(range: Option<Range>, number: Option<u32>) -> Option<u32>
     }
 }
 
-/// The numbers of the two ports that were looked up last. Consecutive entries often name one port,
-/// or two ports in turn, so a look-up tries these two ports first. The numbers never change a
-/// result. They only save time.
+/// The numbers of the two ports that were last found in the name index. Both are 0 at first. Consecutive
+/// entries often name one port, or two ports in turn, so a look-up tries these two ports before it
+/// searches the name index. The numbers never change a result. They only save time.
 #[derive(Clone, Copy, Debug, PartialEq, Eq)]
 pub struct Near {
     last: u32,
@@ -124,7 +124,7 @@ impl<'a> PortIndex<'a> {
         }
     }
 
-    /// Looks up the name in the map, and returns the number of the port with this name, if there is
+    /// Looks up the name in the name index, and returns the number of the port with this name, if there is
     /// one.
     fn mapped_number(&self, name: &[u8]) -> Option<u32>
         ensures { result ≡ port_number self.now name.now }

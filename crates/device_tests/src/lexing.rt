@@ -42,7 +42,7 @@ static LETTERS: [(Source, Result<(), LexFault>, usize); 9] = [
     (Bytes(b"\x7f"), Err(Byte(1)), 0),
     // An underscore or a digit may be in a word, but not at its beginning.
     (Bytes(b"a_1 _a 1a"), Ok(()), 5),
-    // A string may contain any byte except a quote and the bytes that end lines. A comment may contain a quote, too.
+    // A string may contain any byte except a quote, a line feed and a carriage return. A comment may contain any byte except a line feed.
     (Bytes(b"\"\x00\x0b\xff\""), Ok(()), 1),
     (Bytes(b"-- \x00\xff\"\r\na"), Ok(()), 1),
 ];

@@ -97,7 +97,8 @@ static COMPLIANCE: [(&str, Result<&str, u32>); 18] = [
     ("(A)(X)", Ok("A  X")),
     // An index has up to nine digits.
     ("(A(123456789)) (1)", Ok("A[123456789]  1")),
-    // The first pair of parentheses is missing, not closed or empty, or contains an extra comma or an index of ten digits.
+    // The first pair of parentheses is missing, not closed or empty, or contains an extra comma, an index of
+    // ten digits, or an index of two numbers.
     ("", Err(1)),
     ("A (1)", Err(1)),
     ("(A", Err(1)),
@@ -140,7 +141,7 @@ static BOUNDARY: [(&str, Result<&str, u32>); 24] = [
             "0 D Clock Zero; 1 * ControlR One; 2 * Internal Any; 3 D ObserveOnly Any; 4 D Bidir Any 1 false; ",
         ),
     ),
-    // Each possible disable result.
+    // The disable results WEAK0, WEAK1, PULL0 and PULL1. The rows above have Z and KEEPER.
     (
         "0(C,D,OUTPUT2,1,0,1,WEAK0),1(C,D,OUTPUT2,1,1,1,WEAK1),2(C,D,OUTPUT3,0,999999999,1,PULL0),3(C,D,OUTPUT3,0,007,1,PULL1)",
         Ok(

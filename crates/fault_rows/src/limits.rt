@@ -101,7 +101,7 @@ const BLANKS: [Row; 2] = [
         line: "groups w c n drv rcv",
         ending: Ending::Refused("w: 0 rows of 2\n"),
     },
-    // A batch of only blanks has no blocks.
+    // A batch of only blanks has no board's log.
     Row {
         texts: &[("b", Repeated(" ", MOST + 1))],
         line: "batch 2 b c n drv rcv",

@@ -9,7 +9,7 @@ const LOGS: [Named; 3] = [
     ("b", Plain("BOARD A\n1\n2\n")),
 ];
 
-// A faulty chain file, a faulty net file and a faulty BSDL text.
+// A faulty chain file. `NETS` is a faulty net file, and `THIRD` is a faulty BSDL text.
 const CHAIN: Named = ("c", Plain("DEVICE U1 DRV\n"));
 
 const NETS: Named = ("n", Plain("NETS N1 U1.1\n"));

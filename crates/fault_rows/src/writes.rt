@@ -88,7 +88,8 @@ fn every_command_puts_its_text_or_keeps_its_status(rt: HostRuntime) -> Result<()
     Ok(())
 }
 
-// The output for a batch without blocks is empty. The command writes this empty text, too, so this write can fail.
+// A batch without a board's log has an empty output. The command writes this empty text, too, so this write
+// can fail.
 const EMPTY: [(Trouble, Row); 1] = [(
     Trouble::Put(1, 0),
     Row {

@@ -1,5 +1,5 @@
--- A reader decides a production if it finds the value of each list that the production derives, and runs out of tokens if and only if the
--- tokens satisfy `Cut`, that is, are a prefix of such a list.
+-- A reader decides a production if it finds the value of each list that the production derives, and runs out
+-- of tokens if and only if the tokens satisfy the production's `Cut`.
 use Rattle.std.proofs.Common.{◌≡◌, true, false, List, [], ◌∷◌, ◌++◌, Option, Some, None, IsSome, inl, inr, refl, sym, ◌∙◌, ap, subst, append_assoc, append-nil}
 use Rattle.grammars.specs.Production.{Production}
 use Rattle.grammars.specs.Production as production

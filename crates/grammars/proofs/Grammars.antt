@@ -8,7 +8,7 @@ use Rattle.grammars.specs.inner.Reader.{Outcome, read_on, found, refused}
 use Rattle.grammars.specs.inner.Reader as reader
 
 -- The form of the grammar shows that each list that it derives has at least one token: `place`
--- derives one token, and one of the two parts of `in_turn` derives at least one.
+-- derives one token, and one of the two parts of `in_turn` derives at least one. A repetition does not count.
 abbrev pub TakesToken : {T A : Type 0} → Grammar T A → Type 0
 TakesToken (place value) = Unit {0}
 TakesToken (done a) = ⊥

@@ -66,7 +66,8 @@ keeps_in_turn {T} {A} {B} {weight} {p} {q} {given} {First} {Fact} first second =
   kept = kept_in_turn weight (production_of p) (λ a. production_of (q a)) given First Fact first.kept (λ a n h. (second a n h).kept);
 }
 
--- What is true after a turn: `Before` of the state if another turn follows, or `Fact` of the value if this was the last turn.
+-- A fact about the end of a turn and a number. If another turn follows, `Before` is true of the number and
+-- the turn's state. After the last turn, `Fact` is true of the number and the turn's value.
 abbrev pub BehindTurn : {S A : Type 0} → (ℕ → S → Type 0) → (ℕ → A → Type 0) → ℕ → Turn S A → Type 0
 BehindTurn Before Fact n (again s) = Before n s
 BehindTurn Before Fact n (last a) = Fact n a

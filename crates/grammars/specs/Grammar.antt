@@ -18,14 +18,14 @@ pub data Grammar (T : Type 0) : Type 0 → Type 1 where
   -- turn with the state that the turn before it left
   turns : {S A : Type 0} → (S → Grammar T (Turn S A)) → S → Grammar T A
 
--- the production of the grammar
+-- the production of the grammar, which says which lists of tokens the grammar derives, with which values
 abbrev pub production_of : {T A : Type 0} → Grammar T A → Production T A
 production_of (place value) = production.place value
 production_of (done a) = production.done a
 production_of (in_turn p q) = production.in_turn (production_of p) (λ a. production_of (q a))
 production_of (turns turn before) = production.turns (λ s. production_of (turn s)) before
 
--- the reader of the grammar
+-- the reader of the grammar, which finds a value of the grammar at the front of a list of tokens, or refuses the list
 abbrev pub reader_of_grammar : {T A : Type 0} → Grammar T A → Reader T A
 reader_of_grammar (place value) = reader.place value
 reader_of_grammar (done a) = reader.done a

@@ -5,7 +5,8 @@ use Rattle.grammars.specs.Turn.{Turn, turn_of}
 use Rattle.grammars.specs.Production.{Follows}
 use Rattle.grammars.specs.Grammar.{Grammar, done, turns, production_of, ◌>>=◌}
 
--- an entry, and a mark that says whether another entry follows
+-- One turn of reading a list: an entry, and a mark that says whether another entry follows. The turn appends
+-- the entry to `before`, the entries read so far.
 unfoldable pub list_turn : {T A : Type 0} → Grammar T A → Grammar T Bool → List A → Grammar T (Turn (List A) (List A))
 list_turn entry goes_on before = do
   one ← entry

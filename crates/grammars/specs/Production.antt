@@ -1,5 +1,6 @@
 -- The productions of grammars. `Whole` says which lists of tokens are derived, with which values.
--- `Cut` says which lists are prefixes of such a list.
+-- `Cut` says which lists have no wrong token, although tokens may be missing at their end. These are the
+-- prefixes of derived lists, and lists that only a part that derives nothing could continue (see `none`).
 use Rattle.std.specs.Prelude.{◌≡◌, ℕ, zero, suc, List, [], ◌∷◌, ◌++◌, Option, Some, IsSome, ◌⊎◌}
 use Rattle.grammars.specs.Turn.{Turn, again, last}
 
@@ -24,7 +25,7 @@ place {T} value = record {
 abbrev pub done : {T A : Type 0} → A → Production T A
 done a = record { Whole = λ tokens b. (tokens ≡ []) × (b ≡ a); Cut = λ tokens. tokens ≡ [] }
 
--- a production that derives nothing; only the empty list is a cut of it
+-- a production that derives no list; its only cut is the empty list
 abbrev pub none : {T A : Type 0} → Production T A
 none = record { Whole = λ tokens a. ⊥; Cut = λ tokens. tokens ≡ [] }
 
@@ -45,7 +46,8 @@ in_turn p q = record {
   Cut = λ tokens. p.Cut tokens ⊎ Follows p (λ a back. (q a).Cut back) tokens;
 }
 
--- What comes after a turn: `next` if another turn follows, or no token, with the value of the turn, if this was the last turn.
+-- The production of the tokens after a turn. If another turn follows, this is `next` of the turn's state.
+-- After the last turn, it derives only the empty list, with the turn's value.
 abbrev pub follow : {T S A : Type 0} → (S → Production T A) → Turn S A → Production T A
 follow next (again s) = next s
 follow next (last a) = done a

@@ -111,7 +111,7 @@ may_be_idcode None = true
 may_be_idcode (Some code) = has_length 32 code
 
 -- V7: 1 if the capture pattern does not have `ir` symbols or its two symbols nearest TDO are not
--- 01; otherwise 2 if there is an IDCODE pattern that does not have 32 symbols
+-- 01; otherwise 2 if there is an IDCODE pattern that does not have 32 symbols, and None if the rule holds
 unfoldable pub v7 : ℕ → List Symbol → Option (List Symbol) → Option ℕ
 v7 ir capture idcode =
     if not (has_length ir capture && ends_in_01 capture) then Some 1 else
@@ -127,12 +127,12 @@ abbrev pub settled_code : Option (List Symbol) → List Symbol
 settled_code None = []
 settled_code (Some code) = map settled code
 
--- the preload code, with 0 in place of each X
+-- the preload code, with 0 in place of each X; it has no symbols if the description lists no preload code
 unfoldable pub preload : Edition → List Opcode → List Symbol
 preload edition ops = settled_code (listed_preload_code edition ops)
 
 -- The EXTEST code, with 0 in place of each X. In the old edition it consists of `ir` zeros. In the
--- 2001 edition it is the first code that the description lists.
+-- 2001 edition it is the first EXTEST code that the description lists, or has no symbols if there is none.
 unfoldable pub extest : Edition → ℕ → List Opcode → List Symbol
 extest Old ir ops = replicate ir Zero
 extest Of2001 ir ops = settled_code (first_code (codes "EXTEST") ops)

@@ -286,7 +286,8 @@ fn settled_code(alloc: Global, code: Option<&Code>) -> Result<Code, AllocError>
 }
 
 /// Returns the preload code, with 0 in place of each X. In the 2001 edition this is the first code
-/// of PRELOAD if the description lists that instruction. Otherwise it is the first code of SAMPLE.
+/// of PRELOAD if the description lists that instruction. Otherwise it is the first code of SAMPLE. If
+/// there is no such code, the result has no symbols.
 #[tactic(auto, unfolding(crate::specs::Instructions::preload))]
 pub fn preload(alloc: Global, edition: Edition, ops: &[Opcode]) -> Result<Code, AllocError>
     ensures { IfOk result (λ code. code ≡ preload edition ops.now) }
@@ -295,7 +296,8 @@ pub fn preload(alloc: Global, edition: Edition, ops: &[Opcode]) -> Result<Code, 
 }
 
 /// Returns the EXTEST code, with 0 in place of each X. In the old edition it consists of `ir`
-/// zeros. In the 2001 edition it is the first code that the description lists.
+/// zeros. In the 2001 edition it is the first EXTEST code that the description lists, or has no symbols
+/// if there is none.
 #[tactic(auto, unfolding(crate::specs::Instructions::extest))]
 pub fn extest(alloc: Global, edition: Edition, ir: u32, ops: &[Opcode]) -> Result<Code, AllocError>
     ensures { IfOk result (λ code. code ≡ extest edition ir ops.now) }

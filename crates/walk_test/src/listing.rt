@@ -106,7 +106,7 @@ fn put_all<K: Sink>(
 
 /// Writes the groups that explain a log: their number, and for each group its size and its nets in net order. If
 /// `groups` is `None`, writes that no set of groups explains the log. For a number that no net of the board has, writes
-/// an empty name. Each line goes to the sink in one call. A line of more than `MAX_LINE` bytes goes to the sink in
+/// an empty name. Each line of at most `MAX_LINE` bytes goes to the sink in one call. A longer line goes to the sink in
 /// calls of `MAX_LINE` bytes each, and a last call for the rest. Allocates nothing. `line` is used as a buffer, and its
 /// content afterwards is unspecified. Fails only if the sink fails. In this case the sink took a prefix of the text.
 pub fn write_groups<K: Sink>(

@@ -1,6 +1,7 @@
-// Table-driven tests of the command `cover`. It lists the nets that are not covered, each with the reason. For the covered nets, it lists
-// the drivers, the receivers and the pairs of nets that no safe setting tests. A net is covered if some safe setting observes it. A setting
-// is a set of enabled controls. A safe setting enables at most one driver of each net, among other rules.
+// Table-driven tests of the command `cover`. It lists the nets that are not covered, each with the reason.
+// For the covered nets, it lists the drivers and receivers that no safe setting tests, and the pairs of nets
+// that no safe setting observes together. A net is covered if some safe setting observes it. A setting is a
+// set of enabled controls. A safe setting enables at most one driver of each net, among other rules.
 use run_bench::Text::{Edited, Numbered, Plain};
 use run_bench::{CHAIN, Ending, NETS, Named, RCV1, Row, RowFault, Rows, Run, Table, tables_hold};
 
@@ -45,7 +46,7 @@ const REASONS: [Row; 6] = [
         line: "cover c n od rcv1",
         ending: Ending::Puts("NETS 1 COVERED 0\nNET N BLOCKED\n"),
     },
-    // The reason SUPPLY comes before TESTPORT, and TESTPORT comes before DARK.
+    // If several reasons apply to a net, SUPPLY takes precedence over TESTPORT, and TESTPORT over DARK.
     Row {
         texts: &[
             ("c", Plain("DEVICE U1 TS -\nDEVICE U2 RCV1 -\nSUPPLY N")),
@@ -267,7 +268,8 @@ const LINKS: [Row; 3] = [
     },
 ];
 
-// Rows with covered nets, each with a driver and a receiver, and rows about names.
+// Boards on which each net is covered or has no driver. Most rows are about line ends, repeated pins and
+// names.
 const COVERED: [Row; 6] = [
     Row {
         texts: &[("c", Plain(CHAIN)), ("n", Plain(NETS))],

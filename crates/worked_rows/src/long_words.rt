@@ -4,8 +4,8 @@ use run_bench::{Bench, CHAIN, Ending, NETS, RowFault, Text};
 use std::alloc::Global;
 use std::thread::Threads;
 
-// A kind of file, which is the chain file or the net file. The fields are the name of the test table for its words, the name of the text,
-// the command line that reads the text, and the refusal line for a word that is too long.
+// A kind of file: the chain file or the net file. The fields are the name of the test table for its words, the name of the text, the
+// command line that reads the text, and the refusal line for a word that is too long.
 #[derive(Drop)]
 struct File {
     table: &'static str,

@@ -131,7 +131,7 @@ const FAULTY_PART: [Run; 1] = [(
     Ending::Refused("limit: chain parts\n"),
 )];
 
-// A net file with too many nets, which also has too many pins.
+// A net file with too many nets and too many pins.
 const MANY_NETS: Text = Numbered {
     head: "",
     piece: "NET N# X.# Y.# Z.# W.#\n",

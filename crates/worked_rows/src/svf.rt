@@ -1,4 +1,5 @@
-// Table-driven tests of the command `svf`, which writes the test of a board as SVF text.
+// Table-driven tests of the command `svf`, which writes the test of a board as SVF text. The test consists of
+// passes. A pass is the part of the test with one safe setting, which is a set of enabled controls.
 use run_bench::Text::{Cells, Edited, Plain, Repeated};
 use run_bench::{
     BI, CHAIN, Ending, NETS, RCV1, Row, RowFault, Rows, SCANS, TS, Table, Trouble, tables_hold,

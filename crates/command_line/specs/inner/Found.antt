@@ -60,15 +60,16 @@ worked_in command rows =
     (λ files. option_map (λ workers. command workers files) (workers_in rows))
     (log_in rows)
 
--- the command of the subcommand with this name, if the name is `diagnose`, `groups` or `batch`;
--- these commands read response logs
+-- The command of the subcommand with this name, if the name is `diagnose`, `groups` or `batch`;
+-- these commands read response logs. `None` for any other name, or if the rows form no command.
 unfoldable pub log_found : Text → List Row → Option Command
 log_found name rows =
     if bytes_eq (codes "diagnose") name then worked_in Diagnose rows else
     if bytes_eq (codes "groups") name then option_map Groups (log_in rows) else
     if bytes_eq (codes "batch") name then worked_in Batch rows else None
 
--- the command of the subcommand with this name, for all names except `chain`, `ident` and `device`
+-- The command of the subcommand with this name, for all names except `chain`, `ident` and `device`. `None`
+-- for these and for unknown names, or if the rows form no command.
 unfoldable pub board_found : Text → List Row → Option Command
 board_found name rows =
     if bytes_eq (codes "cover") name then option_map Cover (board_in rows) else
@@ -76,14 +77,15 @@ board_found name rows =
     if bytes_eq (codes "walk") name then option_map Walk (board_in rows) else
     if bytes_eq (codes "make") name then make_in rows else log_found name rows
 
--- the command of the subcommand with this name
+-- the command of the subcommand with this name; `None` for an unknown name, or if the rows form no command
 abbrev pub called_found : Text → List Row → Option Command
 called_found name rows =
     if bytes_eq (codes "chain") name then option_map Chain (chain_in rows) else
     if bytes_eq (codes "ident") name then option_map Ident (chain_in rows) else
     if bytes_eq (codes "device") name then device_in rows else board_found name rows
 
--- the command of the subcommand that `clap` found, given by its name and its rows
+-- the command of the subcommand that `clap` found, given by its name and its rows; `None` if there is no
+-- subcommand, or if its rows form no command
 abbrev pub command_in : Option (Text × List Row) → Option Command
 command_in = option_and_then (λ found. called_found found.0 found.1)
 

@@ -5,7 +5,7 @@ use Rattle.board_defs.specs.declared.device.PortBit.{PortBit}
 use Rattle.device_check.specs.declared.listing_table.Entries.{Entries}
 use Rattle.device_check.specs.declared.listing_table.Entries.TheVariants.{Nothing, One, Two}
 
--- the entries in a place of a table, in order
+-- the entries of a cell, as a list in the same order
 abbrev pub entries_in : Entries → List Cell
 entries_in Nothing = []
 entries_in (One first) = first ∷ []

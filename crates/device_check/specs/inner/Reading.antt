@@ -20,12 +20,12 @@ use Rattle.device_check.specs.Sources.{source_number}
 use Rattle.device_check.specs.Needed.{FoundTaps, FoundRegisters, FoundPackage, FoundValues}
 use Rattle.device_check.specs.DeviceStrings.{LeavesFirst, strings_in_order, AreStrings}
 
--- the found TAP ports, with the borrowed names replaced by the names
+-- the found TAP ports, with each borrowed name replaced by its bytes
 abbrev pub taps_view : NeededTaps → FoundTaps
 taps_view taps = record { scan_in = taps.scan_in.now; scan_out = taps.scan_out.now; mode = taps.mode.now; clock = taps.clock.now }
 
--- the found values of the two registers' attributes, with the borrowed strings replaced by the
--- strings
+-- the found values of the attributes of the instruction register and the boundary register, with each borrowed
+-- string replaced by its bytes
 abbrev pub registers_view : NeededRegisters → FoundRegisters
 registers_view registers = record {
   instruction_length = registers.instruction_length;

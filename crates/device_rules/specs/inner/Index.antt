@@ -27,7 +27,8 @@ pub record AreBitStarts (ports : List Port) (starts : List ℕ) : Type 0 where
   pub size : length starts ≡ length ports + 1
   pub each : (n : ℕ) → n ≤ length ports → slice_index starts n ≡ bit_total (take n ports)
 
--- the ports keep rule V2, and `starts` has the number of bits before each port
+-- the ports keep rule V2, and `starts` has the number of bits before each port, followed by the number of all
+-- bits
 pub record IsIndex (ports : List Port) (starts : List ℕ) : Type 0 where
   pub rule : v2 ports ≡ None
   pub counted : AreBitStarts ports starts
@@ -35,7 +36,7 @@ pub record IsIndex (ports : List Port) (starts : List ℕ) : Type 0 where
 abbrev pub is_item_called : {A : Type 0} → (A → List ℕ) → List ℕ → A → Bool
 is_item_called name_in name = λ item. bytes_eq (name_in item) name
 
--- the place of the first item with this name
+-- the place of the first item with this name, or None if no item has it
 abbrev pub place_called : {A : Type 0} → (A → List ℕ) → List A → List ℕ → Option ℕ
 place_called name_in items name = position_from (is_item_called name_in name) 0 items
 
