@@ -20,7 +20,7 @@ EachPair R (x ∷ xs) (y ∷ ys) = R x y × EachPair R xs ys
 abbrev pub IsVerdict : RawBoard → Block → Verdict → Type 0
 IsVerdict board block verdict = IsDiagnosis board block.log verdict.pass verdict.faults
 
--- the verdicts are the verdicts on the blocks, in the same order
+-- there are as many verdicts as blocks, and verdict `n` is the verdict on block `n`
 abbrev pub AreVerdicts : RawBoard → List Block → List Verdict → Type 0
 AreVerdicts board blocks verdicts = EachPair (IsVerdict board) blocks verdicts
 

@@ -1,5 +1,5 @@
--- A pin with a place belongs to a described part. The place of a pin is the number of its part and the number of its port bit. A part is
--- described if it has a DEVICE line.
+-- A pin with a place belongs to a described part. The place of a pin is the number of its part and
+-- the number of its port bit. A part is described if it has a DEVICE line.
 use Rattle.std.proofs.Common.{◌≡◌, ℕ, ◌+◌, Bool, true, false, cond, ◌&&◌, ◌||◌, List, [], ◌∷◌, Option, Some, None, refl, sym, ap, ◌∙◌}
 use Rattle.std.specs.Prelude.{find, is_some, option_map}
 use Rattle.std.specs.List.{list_any, position_from, cons_option}

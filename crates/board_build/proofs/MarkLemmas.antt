@@ -1,5 +1,5 @@
--- The borrowed words and the marked words agree with the words of the definitions. A marked word is a word of a net file with facts about
--- the pin that it names.
+-- The borrowed words and the marked words agree with the words of the definitions. A marked word is
+-- a word of a net file with facts about the pin that it names.
 use Rattle.std.proofs.Common.{◌≡◌, ℕ, zero, suc, ◌+◌, ◌==◌, Bool, true, false, cond, ◌&&◌, List, [], ◌∷◌, length, map, Option, Some, None, refl, sym, ap, ◌∙◌, arith}
 use Rattle.std.specs.Prelude.{slice_get, filter, is_none, is_some, option_map, option_and_then, nat_lt, if◌then◌else◌}
 use Rattle.std.proofs.lemmas.List.{length-map}

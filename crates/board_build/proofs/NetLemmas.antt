@@ -127,7 +127,8 @@ abbrev count_of : Bool → ℕ
 count_of true = 1
 count_of false = 0
 
--- the premise says that no item passes both `p` and `q`, and that each item that passes one of them passes `r`
+-- if no item passes both `p` and `q`, and each item that passes one of them passes `r`, the numbers
+-- of items that pass `p` and `q` add up to at most the number of items that pass `r`
 cut_count : {X : Type 0} (p q r : X → Bool)
     → ((x : X) → count_of (p x) + count_of (q x) ≤ count_of (r x)) → (xs : List X)
     → length (filter p xs) + length (filter q xs) ≤ length (filter r xs)

@@ -156,7 +156,7 @@ unfolding board_answer board_fault limit_fault data_limit net_limit pin_limit pi
 a_net_that_is_pulled_twice = refl
 
 -- nets are in the order of their first lines, a second line of a net adds pins to it, and a
--- repeated pin counts once
+-- repeated pin counts once; R1 is inert, and net B is pulled to 1
 a_whole_board : board_of
     (chain
     (said 3 (Bypass (codes "U3") 4) ∷ said 4 (Inert (codes "R1")) ∷ said 5 (Pull (codes "B") true) ∷
@@ -263,7 +263,7 @@ one_unplaced_pin : map (are_one (word 0 (codes "U3") (codes "7")))
     ≡ true ∷ false ∷ false ∷ false ∷ []
 one_unplaced_pin = refl
 
--- a word that names a pin of U1 with this name and has the place of port bit 0 of part 0
+-- a word that names the pin of U1 with this name; the pin's place is port bit 0 of part 0
 abbrev there : List ℕ → Marked
 there name = record { word = ((0, (codes "U1", name)), at 1 3); described = true; at = Some (place 0 0); inert = false; always_on = false }
 

@@ -1,5 +1,5 @@
--- If no rule finds a fault, the board made from the marked words keeps the rules of a board. A marked word is a word of a net file with
--- facts about the pin that it names.
+-- If no rule finds a fault, the board made from the marked words keeps the rules of a board. A
+-- marked word is a word of a net file with facts about the pin that it names.
 use Rattle.std.proofs.Common.{◌≡◌, ℕ, List, [], map, None, sym, subst, ◌∙◌, ap}
 use Rattle.std.specs.Prelude.{option_map}
 use Rattle.first_places.specs.Places.{first_repeated}

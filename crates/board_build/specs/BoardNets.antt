@@ -13,8 +13,9 @@ use Rattle.board_lines.specs.NetWords.{Pin, NetWord, is_among, net_names, standi
 use Rattle.board_lines.specs.ChainParts.{PinPlace, chain_parts, pin_places, place_of_pin}
 use Rattle.board_lines.specs.LineRules.{Pulled, pulls_of, pull_of_net}
 
--- what determines the nets of a board, besides the words: the places of the described parts' pins,
--- the names on the INERT and SUPPLY lines, and the nets and values of the PULL lines
+-- the facts that determine the nets of a board, besides the words and the names of the nets: the
+-- places of the described parts' pins, the names on the INERT and SUPPLY lines, and the nets and
+-- values of the PULL lines
 pub record NetMarks : Type 0 where
   pub places : List PinPlace
   pub inerts : List (List ℕ)

@@ -1,5 +1,7 @@
--- The rules on a board's files, in the order in which they are checked. A part is described if it has a DEVICE line. The place of a pin is
--- the number of its part and the number of its port bit. A driver is always on if its cell has no control.
+-- The rules on a board's files, in the order in which they are checked. A rule gives a fault, or
+-- None if nothing breaks the rule. A part is described if it has a DEVICE line. The place of a pin
+-- is the number of its part and the number of its port bit. A driver is always on if its cell has
+-- no control.
 use Rattle.std.specs.Prelude.{ℕ, ◌==◌, Bool, false, ◌&&◌, ◌||◌, List, filter, find, length, nat_lt, slice_get, sum_by, Option, Some, None, Result, option_map, is_none, if◌then◌else◌}
 use Rattle.std.specs.List.{list_any}
 use Rattle.board_defs.specs.Limits.{most_bits, most_nets, most_pins}
@@ -76,11 +78,12 @@ guarded_driver board drivers =
 unfoldable pub two_always_on : List NetWord → Option BoardFault
 two_always_on drivers = option_map (λ word. TwoAlwaysOn (spot_of word)) (first_repeated (λ a b. word_net a == word_net b) drivers)
 
--- the fault of the first limit that is exceeded
+-- the fault of the first of three limits that is exceeded: the bits of a data scan, the nets, and
+-- the pins
 unfoldable pub limit_fault : List Part → List (List ℕ) → List NetWord → Option BoardFault
 limit_fault parts names words = data_limit parts then net_limit names then pin_limit words
 
--- the first fault of the pins of the net file
+-- the first fault of the pins that the net file names: an unknown pin, or else a pin in two nets
 unfoldable pub pin_fault : List Part → List NetWord → Option BoardFault
 pin_fault parts words = no_pin (described_names parts) (pin_places parts) words then pin_twice words
 
@@ -88,7 +91,7 @@ pin_fault parts words = no_pin (described_names parts) (pin_places parts) words 
 unfoldable pub driver_fault : RawBoard → List NetWord → Option BoardFault
 driver_fault board drivers = guarded_driver board drivers then two_always_on drivers
 
--- the first fault of the files; the rules are checked in this order
+-- the first fault of the files; the rules are checked in the order written here
 unfoldable pub board_fault : List ChainLine → List NetLine → List Part → Option BoardFault
 board_fault chain nets parts =
     limit_fault parts (net_names nets) (standing_words nets)

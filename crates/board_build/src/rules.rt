@@ -158,8 +158,8 @@ fn pin_fault(alloc: Global, words: &StandingWords<'_>) -> Result<Option<BoardFau
     marked_twice(alloc, words)
 }
 
-/// Returns the first fault that the rules before GuardedDriver and TwoAlwaysOn find. There must be
-/// fewer than 2^32 names.
+/// Returns the first fault that the rules before GuardedDriver and TwoAlwaysOn find, or None if
+/// they find no fault. There must be fewer than 2^32 names.
 #[tactic(auto, unfolding(crate::specs::inner::Marked::file_fault))]
 pub fn file_fault(
     alloc: Global,
@@ -286,8 +286,8 @@ fn marked_two(alloc: Global, drivers: &[MarkedWord<'_>]) -> Result<Option<BoardF
     two_always_on(alloc, &nets)
 }
 
-/// Returns the first fault of the always-on drivers. The rule GuardedDriver is checked before
-/// TwoAlwaysOn.
+/// Returns the first fault of the always-on drivers, or None if they have no fault. The rule
+/// GuardedDriver is checked before TwoAlwaysOn.
 #[tactic(auto, unfolding(crate::specs::inner::Marked::marked_drivers))]
 pub fn driver_fault(
     alloc: Global,

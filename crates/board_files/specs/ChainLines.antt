@@ -29,7 +29,8 @@ abbrev pub as_length : Option ℕ → Option ℕ
 as_length None = None
 as_length (Some n) = if nat_le 2 n && nat_le n most_instruction_bits then Some n else None
 
--- the number that a word of 1 to 3 decimal digits spells, if it is from 2 to 255
+-- the number that a word of 1 to 3 decimal digits spells, if it is from 2 to 255; None for every
+-- other word
 abbrev pub length_in_bypass : Word → Option ℕ
 length_in_bypass word = if nat_le (length word) 3 then as_length (decimal_from 0 word) else None
 

@@ -9,7 +9,7 @@ use short_lists::TextSlice;
 use std::alloc::Global;
 use text_lines::{first_line, words};
 
-/// A type of line in a file. A value of the type is made from the number and the words of the line.
+/// The type of the lines of a file. Each value is made from the number and the words of one line.
 pub(crate) trait FileLine: Drop {
     ghost read: { ℕ → List Word → Result Self LineFault };
 

@@ -68,7 +68,8 @@ impl NetFile {
     }
 }
 
-/// Returns the name of each line's net, in the order of the lines. A name that is on several lines is in the list several times.
+/// Returns the name of each line's net, in the order of the lines. A name that is on several lines
+/// occurs several times.
 pub fn line_names<'a>(alloc: Global, lines: &'a [NetLine]) -> Result<Vec<&'a [u8]>, AllocError>
     ensures names { IfOk result (λ names. map (λ n. n.now) names.items ≡ line_names lines.now) }
     ensures count { IfOk result (λ names. vec_len names ≡ length lines.now) }

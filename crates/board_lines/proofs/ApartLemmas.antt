@@ -1,4 +1,5 @@
--- Lemmas about lists in which a relation holds between each item and every later item.
+-- Lemmas about lists in which a relation holds between each item and every later item. The items
+-- that `once` keeps are such a list, since no two of them are equal.
 use Rattle.std.proofs.Common.{◌≡◌, ℕ, zero, suc, ◌<◌, Bool, true, false, cond, ◌||◌, List, [], ◌∷◌, ◌++◌, map, get_or, Some, None, refl, sym, ap, subst, ◌∙◌, arith, ◌⊎◌, inl, inr}
 use Rattle.std.specs.Prelude.{slice_get, filter, AllPairs}
 use Rattle.std.specs.List.{list_any, AllByRecursion}
@@ -27,7 +28,7 @@ pairs_at {X} R xs h i j x y less ei ej =
     subst Q (get_or_from_slice_get xs j y x ej) (subst P (get_or_from_slice_get xs i x x ei) (h i j x less (slice_get_within xs j y ej)))
 
 -- if R holds between each item and every later item, two items between which R holds in neither
--- order are the same item of the list
+-- order are at the same index
 pub one_place : {X : Type 0} (R : X → X → Type 0) (xs : List X) → AllPairs R xs
     → (i j : ℕ) (x y : X) → slice_get xs i ≡ Some x → slice_get xs j ≡ Some y → (R x y → ⊥)
     → (R y x → ⊥) → i ≡ j

@@ -1,4 +1,5 @@
--- The selection of a chain finds the entity of each DEVICE line. Each number that it returns is the index of an entity.
+-- The selection of a chain finds the entity of each DEVICE line. Each number that it returns is the
+-- index of an entity.
 use Rattle.std.proofs.Common.{◌≡◌, ℕ, ◌+◌, ◌<◌, Bool, true, false, cond, List, [], ◌∷◌, length, map, Option, Some, None, Result, Ok, Err, Vec, Global, refl, ap, sym, ◌∙◌, subst, arith, inl, inr}
 use Rattle.std.specs.Prelude.{IfOk, option_map, option_and_then, position, is_none, unwrap_or}
 use Rattle.std.specs.List.{All, AllByRecursion, position_from}

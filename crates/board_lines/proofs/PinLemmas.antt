@@ -269,8 +269,8 @@ rows_step rows longer numbers pushed parts i number part within read are kept ne
     ∙ ap (λ p. take i parts ++ p ∷ []) (sym read) in
     subst P (sym is) (subst Q (sym cut) (rows_more rows longer numbers (take i parts) number part are kept new))
 
--- one step of the loop, which goes from the last bit to the first: bit `i - 1` replaces the value
--- for its pin, and other values stay
+-- one step of the loop, which goes from the last bit to the first: the value for the pin of bit
+-- `i - 1` becomes `i - 1`, and the values for other pins stay the same
 pub bits_step : (bits : List PortBit) (i : ℕ) (default : PortBit) (name : List ℕ) (old new : Option ℕ) → 0 < i → i ≤ length bits →
     old ≡ position_from (λ (b : PortBit). has_pin_named name b.pin) i (drop i bits)
     → new ≡ cond (has_pin_named name (get_or bits (i - 1) default).pin) (Some (i - 1)) old →

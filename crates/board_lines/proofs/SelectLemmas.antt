@@ -1,4 +1,5 @@
--- The selection of a chain finds the entity of each DEVICE line. If it finds no fault, the chain has 1 to 255 parts with different names.
+-- The selection of a chain finds the entity of each DEVICE line. If it finds no fault, the chain
+-- has 1 to 255 parts with different names.
 use Rattle.std.proofs.Common.{◌≡◌, ℕ, suc, ◌+◌, ◌<◌, ◌≤◌, Bool, true, false, cond, List, [], ◌∷◌, ◌++◌, length, map, get_or, Option, Some, None, Result, Ok, Err, refl, sym, ap, ◌∙◌, arith}
 use Rattle.std.specs.Prelude.{slice_get, option_map, option_and_then, unwrap_or, IfOk}
 use Rattle.std.specs.List.{list_any}

@@ -10,7 +10,8 @@ limit_number BoundaryBits = 2
 limit_number Nets = 3
 limit_number Pins = 4
 
--- what the limit with this number counts; `pins` for any number other than 1 to 4
+-- the name of the limit with this number, which says what it counts; `pins` for any number other
+-- than 1 to 4
 abbrev pub limit_name : ℕ → List ℕ
 limit_name number =
     if number == limit_number ChainParts then codes "chain parts" else (if number == limit_number BoundaryBits then codes "boundary bits"

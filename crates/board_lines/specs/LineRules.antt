@@ -1,4 +1,5 @@
--- The rules on the INERT, SUPPLY and PULL lines of a chain file.
+-- The rules on the INERT, SUPPLY and PULL lines of a chain file. A rule gives a fault, or None if
+-- no line breaks the rule.
 use Rattle.std.specs.Prelude.{ℕ, Bool, List, [], ◌∷◌, map, Option, Some, None, option_map, option_and_then, is_none, is_some, position}
 use Rattle.std.specs.List.{cons_option}
 use Rattle.first_places.specs.Places.{first_place, first_repeat, first_value}
@@ -59,7 +60,8 @@ pulls_of (line ∷ lines) = cons_option (pull_of_line line.statement) (pulls_of 
 abbrev pub pull_of_net : List Pulled → List ℕ → Option Bool
 pull_of_net pulls name = first_value same_word pulls name
 
--- the first fault of the INERT, SUPPLY and PULL lines; the rules are checked in this order
+-- the first fault of the INERT, SUPPLY and PULL lines; the rules are checked in the order written
+-- here
 unfoldable pub line_fault : List ChainLine → List (List ℕ) → Option BoardFault
 line_fault chain names =
     inert_in_chain (named InertName chain) (names_of (named PartName chain))

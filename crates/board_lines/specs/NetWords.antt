@@ -63,7 +63,8 @@ words_of_nets names (line ∷ lines) = line_words (net_number names line.name) l
 abbrev pub net_words : List NetLine → List NetWord
 net_words lines = words_of_nets (net_names lines) lines
 
--- the words that name pins, leaving out each word that repeats a pin of the same net
+-- the words that name pins, leaving out each word that repeats a pin of its net from an earlier
+-- word
 abbrev pub standing_words : List NetLine → List NetWord
 standing_words lines = once same_place (net_words lines)
 

@@ -17,7 +17,8 @@ abbrev pub has_pin_named : List ℕ → Option (List ℕ) → Bool
 has_pin_named name None = false
 has_pin_named name (Some pin) = same_word pin name
 
--- the number of the first port bit whose pin has this name, or None if there is none; `pins` has the pin of each port bit
+-- the number of the first port bit whose pin has this name, or None if there is none; `pins` has
+-- the pin of each port bit
 abbrev pub bit_of_pin : List (Option (List ℕ)) → List ℕ → Option ℕ
 bit_of_pin pins name = position_from (has_pin_named name) 0 pins
 

@@ -1,4 +1,5 @@
--- The rules on the parts of a chain, and the entity of each DEVICE line.
+-- The rules on the parts of a chain, and the entity of each DEVICE line. A rule gives a fault, or
+-- None if nothing breaks the rule.
 use Rattle.std.specs.Prelude.{ℕ, List, length, map, nat_eq, nat_lt, slice_get, Option, Some, None, Result, option_map, option_and_then, is_none, unwrap_or, position, if◌then◌else◌}
 use Rattle.board_defs.specs.Limits.{most_parts}
 use Rattle.first_places.specs.Places.{first_place, first_repeat}
@@ -14,12 +15,12 @@ use Rattle.board_lines.specs.Names.{Named, named, names_of}
 use Rattle.board_lines.specs.BoardLimits.{limit_number}
 use Rattle.board_lines.specs.Faults.{◌then◌, unless}
 
--- the line of the name at index `place` of the list, as a spot; its word is always 1, since a fault
--- of a chain file names a whole line
+-- the line of the name at index `place` of the list, as a spot, or None past the end of the list;
+-- the word is always 1, since the faults that are made from these spots report only the line
 abbrev pub spot_at : List Named → ℕ → Option Spot
 spot_at list place = option_map (λ n. record { line = n.0; word = 1 }) (slice_get list place)
 
--- the fault of a chain with no DEVICE line and no BYPASS line
+-- the fault of a chain without parts, that is, with no DEVICE line and no BYPASS line
 unfoldable pub no_chain : List Named → Option BoardFault
 no_chain parts = if nat_eq (length parts) 0 then Some NoChain else None
 
@@ -43,7 +44,7 @@ entity_twice entities = option_map EntityTwice (first_repeat same_word entities)
 unfoldable pub chain_limit : List Named → Option BoardFault
 chain_limit parts = if nat_lt most_parts (length parts) then Some (Limit (limit_number ChainParts)) else None
 
--- the first fault of the chain; the rules are checked in this order
+-- the first fault of the chain; the rules are checked in the order written here
 unfoldable pub first_fault : List Named → List Named → List (Option ℕ) → List (List ℕ) → Option BoardFault
 first_fault parts devices places entities =
     no_chain parts then part_twice parts then no_entity devices places then entity_twice entities

@@ -1,6 +1,6 @@
-//! The contents of a board's files: the parts of the chain, the entity of each part, the names of
-//! the nets, the words that name pins, and the nets that are pulled. The crate also checks the
-//! rules on names, which need only the lines of the files.
+//! The contents of a board's files: the parts of the chain, the entity of each DEVICE line, the
+//! names of the nets, the words that name pins, and the nets that are pulled. The crate also checks
+//! the rules on the parts of the chain and on the INERT, SUPPLY and PULL lines.
 #![tactic(auto)]
 
 mod fault;

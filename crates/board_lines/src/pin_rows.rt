@@ -160,7 +160,7 @@ fn row_among(rows: &[PinRow<'_>], bits: &[PortBit]) -> Option<usize>
 }
 
 /// Returns the number of a row with the pins of these port bits. Adds a row if there is none among
-/// the first `ROWS_COMPARED` rows.
+/// the first `ROWS_COMPARED` rows. The old rows keep their numbers.
 pub fn row_of<'a>(
     alloc: Global,
     rows: &mut Vec<PinRow<'a>>,

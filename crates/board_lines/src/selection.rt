@@ -173,7 +173,8 @@ fn chain_limit(parts: &[(u32, &[u8])]) -> Option<BoardFault>
 }
 
 /// Returns the line of the name at index `place` of the list, as a `Spot`, or None past the end of
-/// the list. The spot's word is always 1, since a fault of a chain file names a whole line.
+/// the list. The spot's word is always 1, since the faults that are made from these spots report
+/// only the line.
 pub fn spot_at(named: &[(u32, &[u8])], place: usize) -> Option<Spot>
     ensures { result ≡ spot_at (map (λ n. (n.0, n.1.now)) named.now) place }
 {

@@ -320,7 +320,8 @@ same_outcome held command reading other a b one known is gives_a gives_b =
 apart : {text line : Text} → ◌≡◌ {A = Result Text Text} (Ok text) (Err line) → ⊥
 apart e = cc e
 
--- a run of a command is complete: if no count of faults rose, the outcome determines the status
+-- a run of a command is complete (`IsComplete`): if no count of faults rose and the reading of its
+-- texts is known, the outcome determines the status, unless memory ran out
 pub run_complete : OneOutcome → SomeOutcome
     → (command : Command) (held : Held) (before now : Text → ℕ) (asked asked' : List Text)
     (out out' notes notes' : Shown) (ended : Status)
@@ -404,11 +405,13 @@ OneIdents = (chain : Text) (texts : List Text) → AtMostOne (AreIdents chain te
 abbrev OneBoard : Type 0
 OneBoard = (chain nets : Text) (texts : List Text) → AtMostOne (IsBoardRead chain nets texts)
 
--- for the board that the other texts denote, a text of logs has at most one answer
+-- For a text of logs and the texts of a board, there is at most one answer (`OnDenoted`). The answer
+-- is the board and what the logs show for it, or the first fault of these texts.
 abbrev OneJudged : {L E A : Type 0} → Judging L E A → Type 0
 OneJudged judging = (text chain nets : Text) (texts : List Text) → AtMostOne (OnDenoted judging text chain nets texts)
 
--- the contents of a text show at most one value
+-- for a board that satisfies the rules of a board, the contents of a text of logs show at most one
+-- value
 abbrev FindsOne : {L E A : Type 0} → Judging L E A → Type 0
 FindsOne {L} {E} {A} judging =
     (board : RawBoard) (contents : L) (x y : A) → IsBoard board → judging.Finds board contents x
@@ -516,7 +519,7 @@ one_grouping one board rows None (Some groups) rules is_x is_y = absurd (is_x gr
 one_grouping one board rows (Some groups) None rules is_x is_y = absurd (is_y groups is_x)
 one_grouping one board rows (Some groups) (Some others) rules is_x is_y = ap Some (one board rows groups others rules is_x is_y)
 
--- each kind of text of logs has at most one answer
+-- for each of the three ways to judge a text of logs, there is at most one answer (`OneJudged`)
 pub record LogsSayOne : Type 0 where
   pub diagnoses : OneJudged diagnosing
   pub groups : OneJudged grouping
@@ -644,11 +647,13 @@ SomeIdents = (chain : Text) (texts : List Text) → HasAnswer (AreIdents chain t
 abbrev SomeBoard : Type 0
 SomeBoard = (chain nets : Text) (texts : List Text) → HasAnswer (IsBoardRead chain nets texts)
 
--- for the board that the other texts denote, a text of logs has an answer
+-- A text of logs and the texts of a board have an answer together. It is what the logs show for the
+-- board, or the first fault of the texts, which may denote no board.
 abbrev SomeJudged : {L E A : Type 0} → Judging L E A → Type 0
 SomeJudged judging = (text chain nets : Text) (texts : List Text) → HasAnswer (OnDenoted judging text chain nets texts)
 
--- the contents of each text show some value
+-- for a board that satisfies the rules of a board, the contents of each text of logs show some
+-- value
 abbrev FindsSome : {L E A : Type 0} → Judging L E A → Type 0
 FindsSome {L} {E} {A} judging = (board : RawBoard) (contents : L) → IsBoard board → (found : A) × judging.Finds board contents found
 
@@ -668,7 +673,7 @@ some_judged boards rules {L} {E} {A} judging some text chain nets texts = by_boa
     by_board (Ok board) denoted = by_text board denoted (judging.read text board) refl
     by_board (Err fault) is = (Err (Input fault), inl is)
 
--- each log of a board has a diagnosis
+-- each log of a board that satisfies the rules of a board has a diagnosis
 abbrev SomeDiagnosis : Type 0
 SomeDiagnosis =
     (board : RawBoard) (rows : List (List Bool)) → IsBoard board

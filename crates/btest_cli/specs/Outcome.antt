@@ -63,7 +63,8 @@ pub record IsReadAs (held : Held) (command : Command) (asked asked' : List Text)
   pub made : request_of command texts ≡ Some request
   pub asks : Asks asked asked' (names_in_command command)
 
--- the run read the texts, the sink took the text that they give, and `IsWorthFor` holds for this text
+-- The run read the texts, and the sink took the text that they give. This text has the property
+-- that the command promises (`IsWorthFor`).
 pub record IsDone (held : Held) (command : Command) (asked asked' : List Text) (old new : Shown) : Type 0 where
   pub request : Request
   pub read : IsReadAs held command asked asked' request
@@ -72,7 +73,7 @@ pub record IsDone (held : Held) (command : Command) (asked asked' : List Text) (
   pub takes : Takes old new text
   pub worth : IsWorthFor request text
 
--- the run read the texts, and the sink took some first bytes of the text that they give
+-- the run read the texts, and the sink took a prefix of the text that they give
 pub record IsCutShort (held : Held) (command : Command) (asked asked' : List Text) (old new : Shown) : Type 0 where
   pub request : Request
   pub read : IsReadAs held command asked asked' request
@@ -81,7 +82,7 @@ pub record IsCutShort (held : Held) (command : Command) (asked asked' : List Tex
   pub bytes : ℕ
   pub takes : Takes old new (take bytes text)
 
--- the sink took the whole line, or its count of faults rose and it took some first bytes of the line
+-- the sink took the whole line, or its count of faults rose and it took a prefix of the line
 abbrev pub TookOrCut : Shown → Shown → Text → Type 0
 TookOrCut old new line = Takes old new line ⊎ (Rose old.faults new.faults × ((bytes : ℕ) × Takes old new (take bytes line)))
 

@@ -59,8 +59,8 @@ reading_in [] found = Some (Read [])
 reading_in (wanted ∷ others) [] = None
 reading_in (wanted ∷ others) (text ∷ found) = read_first wanted (Some text) (reading_in others found)
 
--- `reading` is the result of reading the texts. If the store's texts are known, these are the texts that are read. Otherwise it is the
--- result for some texts.
+-- `reading` is the result of reading the texts. If the store's texts are known, these are the texts
+-- that are read. Otherwise `reading` is the result for some texts.
 abbrev pub IsRead : Held → List Wanted → Reading → Type 0
 IsRead None texts reading = (found : List Text) × (reading_in texts found ≡ Some reading)
 IsRead (Some held) texts reading = reading_of held texts ≡ Some reading

@@ -25,7 +25,7 @@ use std::thread::Threads;
 use walk_test::law::logs_have_one_set;
 
 /// Runs a command line: reads its words, fetches the texts that they name from `store`, checks these texts, and writes the text that they
-/// give to `out`. At every status but `Done`, writes one line to `notes`. If `notes` fails, it takes only some first bytes of this line.
+/// give to `out`. At every status but `Done`, writes one line to `notes`. If `notes` fails, it takes only a prefix of this line.
 pub fn run<R: Threads + Sync, S: Store, K: Sink, N: Sink, G: Gate>(
     rt: &R,
     alloc: Global,
@@ -43,7 +43,9 @@ pub fn run<R: Threads + Sync, S: Store, K: Sink, N: Sink, G: Gate>(
     ensures usage_noted { result ≡ Status.Usage
         → TookOrCut (N.shown notes.old) (N.shown notes.new) usage_line }
 
-    // Done: `run` asked for each text once and read it. `out` took exactly the text that these texts give, and `IsWorthFor` holds for it.
+    // Done: `run` asked for each text once and read it. `out` took exactly the text that these
+    // texts give. This text has the property that the command promises (`IsWorthFor`): the text of
+    // `svf`, for example, is a test of the board. `notes` took nothing.
     ensures done { result ≡ Status.Done
         → ForCommand words.now
         (λ c. IsDone (S.held store.old) c (S.asked store.old) (S.asked store.new)
@@ -57,14 +59,15 @@ pub fn run<R: Threads + Sync, S: Store, K: Sink, N: Sink, G: Gate>(
         (λ c. IsRefused (S.held store.old) c (S.asked store.old) (S.asked store.new)
         (N.shown notes.old) (N.shown notes.new)) }
 
-    // ReadFault: reading some text failed, so its fault count rose. All texts before it were read, and no later text was asked for. `notes`
-    // took the line for the failing text.
+    // ReadFault: a text could not be read, and the fault count of its name rose. `run` read all texts before this text, and asked for no
+    // later text. `notes` took the line for this text.
     ensures read { result ≡ Status.ReadFault
         → ForCommand words.now
         (λ c. IsNotRead (S.held store.old) c (S.faults store.old) (S.faults store.new)
         (S.asked store.old) (S.asked store.new) (N.shown notes.old) (N.shown notes.new)) }
 
-    // WriteFault: the fault count of `out` rose, and `out` took some first bytes of the text.
+    // WriteFault: the fault count of `out` rose, and `out` took a prefix of the text.
+    // `notes` took the line for a failed write.
     ensures write { result ≡ Status.WriteFault
         → Rose (K.shown out.old).faults (K.shown out.new).faults }
     ensures cut { result ≡ Status.WriteFault
@@ -74,9 +77,13 @@ pub fn run<R: Threads + Sync, S: Store, K: Sink, N: Sink, G: Gate>(
     ensures write_noted { result ≡ Status.WriteFault
         → TookOrCut (N.shown notes.old) (N.shown notes.new) write_line }
 
-    // At every status but Done and WriteFault, `run` wrote nothing to `out`. This is also true if memory ran out.
+    // At every status but Done and WriteFault, `run` wrote nothing to `out`.
     ensures untouched { result ≢ Status.Done → result ≢ Status.WriteFault
         → K.shown out.new ≡ K.shown out.old }
+
+    // NoMemory: memory ran out, and `notes` took the line for this. If the words form a command,
+    // `run` asked for the first `count` texts of the command, for some `count`, each once and in
+    // order, and for no others.
     ensures memory_noted { result ≡ Status.NoMemory
         → TookOrCut (N.shown notes.old) (N.shown notes.new) memory_line }
     ensures memory_asks { result ≡ Status.NoMemory

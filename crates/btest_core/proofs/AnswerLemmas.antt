@@ -1,4 +1,5 @@
--- Lemmas about the answer of two steps, of which the second takes the value of the first. An answer is a value or the first fault.
+-- Lemmas about the answer of two steps, of which the second takes the value of the first. An answer
+-- is a value or the first fault.
 use Rattle.std.proofs.Common.{inl, inr, Result, Ok, Err, refl}
 use Rattle.std.specs.Prelude.{IfSome}
 use Rattle.std.proofs.lemmas.Option.{IfSome_then}
@@ -21,7 +22,7 @@ goes_on view first next value answer found is =
     gives_more view (next value) (IsAnswerOfSteps first next) answer (λ a n. inl (value, found, n))
     is
 
--- a fault of the first step is the answer of both steps
+-- a fault of the first step, other than lack of memory, is the answer of both steps
 pub stops : {W V : Type 0} (first : Result W InputFault → Type 0)
     (next : W → Result V InputFault → Type 0) (fault : InputFault)
     → IfSome (input_told fault) (λ f. first (Err f))

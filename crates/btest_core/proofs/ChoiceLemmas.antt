@@ -116,7 +116,8 @@ zip_firsts n [] ys all = tt
 zip_firsts n (x ∷ xs) [] all = tt
 zip_firsts n (x ∷ xs) (y ∷ ys) all = (all.0, zip_firsts n xs ys all.1)
 
--- one step of the induction over the lines: a DEVICE line adds one item to both lists, and any other line adds none
+-- one step of the induction over the lines: a DEVICE line adds one item to both lists, and any
+-- other line adds none
 count_more : (n : ℕ) (statement : ChainStatement) (lines : List ChainLine)
     → length (filter_map (λ line. package_in line.statement) lines)
     ≡ length (named EntityName lines)

@@ -1,9 +1,10 @@
--- Lemmas about a loop that finds the value of each item of a list. An answer is the list of the values or the first fault.
+-- Lemmas about a loop that finds the value of each item of a list. An answer is the list of the
+-- values or the first fault.
 use Rattle.std.proofs.Common.{◌≡◌, List, [], ◌∷◌, ◌++◌, Result, Ok, Err, ap, sym, refl, subst, inl, inr, append_assoc, append-nil}
 use Rattle.btest_core.specs.declared.fault.InputFault.{InputFault}
 use Rattle.btest_core.specs.Answers.{EachOf}
 
--- `front` followed by the values of `answer`; the fault of `answer` if it is a fault
+-- `front` followed by the values in `answer`, or the fault if `answer` is a fault
 abbrev pub behind : {B : Type 0} → List B → Result (List B) InputFault → Result (List B) InputFault
 behind front (Ok values) = Ok (front ++ values)
 behind front (Err fault) = Err fault

@@ -1,5 +1,5 @@
--- The properties of a chain file that the joined chain file also has. In joined files, all nets that LINK lines connected have the same
--- name.
+-- The properties of a chain file that the joined chain file also has. In joined files, all nets
+-- that LINK lines connected have the same name.
 use Rattle.std.proofs.Common.{◌≡◌, ℕ, List, [], ◌∷◌, map, Option, Some, None, Ok, refl, ap, subst}
 use Rattle.board_defs.specs.declared.spot.Spot.{Spot}
 use Rattle.board_files.specs.declared.chain_file.ChainLine.{ChainLine}

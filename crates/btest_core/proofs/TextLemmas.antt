@@ -1,4 +1,5 @@
--- Lemmas about a loop that finds the entity of each text. An answer is the list of the entities or the first fault.
+-- Lemmas about a loop that finds the entity of each text. An answer is the list of the entities or
+-- the first fault.
 use Rattle.std.proofs.Common.{◌≡◌, ℕ, ◌+◌, ◌<◌, ◌≤◌, List, [], ◌∷◌, map, drop, length, slice_index_or, ap, sym, ◌∙◌, subst, Vec, Global}
 use Rattle.std.specs.List.{enumerate_from}
 use Rattle.std.proofs.lemmas.List.{drop_all, at_drop_more}

@@ -1,5 +1,5 @@
--- The instruction lengths and the board that texts denote. An answer is a value or the first fault. In joined files, all nets that LINK
--- lines connected have the same name.
+-- The instruction lengths and the board that texts denote. An answer is a value or the first fault.
+-- In joined files, all nets that LINK lines connected have the same name.
 use Rattle.std.specs.Prelude.{ℕ, ◌≤◌, List, length, map, Result, Ok}
 use Rattle.std.specs.List.{All}
 use Rattle.board_defs.specs.Limits.{most_parts, IsInstructionLength}

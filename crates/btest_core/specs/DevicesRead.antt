@@ -34,8 +34,9 @@ abbrev pub chosen_texts : List ChainLine → List ℕ → List Chosen
 chosen_texts lines numbers = zip numbers (filter_map (λ line. package_in line.statement) lines)
 
 -- If the entity breaks no rule in the chosen package, the answer is the device of the entity in
--- this package. Otherwise the answer is the fault of the first rule or string that fails, with the
--- number of the text.
+-- this package. The package is the entity's default package if the choice has none. If a
+-- rule or a string of the entity fails, the answer is the fault of the first one that fails, with
+-- the number of the text.
 abbrev pub IsDeviceIn : Entity → Chosen → Result RawDevice InputFault → Type 0
 IsDeviceIn entity choice (Ok device) = IsSound entity choice.1 device
 IsDeviceIn entity choice (Err (Device text fault)) = (text ≡ choice.0) × IsFirstFailure entity choice.1 fault

@@ -1,4 +1,5 @@
--- The patterns of the identification codes of a chain that texts denote. An answer is a list of patterns or the first fault.
+-- The patterns of the identification codes of a chain that texts denote. An answer is a list of
+-- patterns or the first fault.
 use Rattle.std.specs.Prelude.{ℕ, Bool, true, false, List, map, find, Option, Some, None, option_map, Result, Ok, Err}
 use Rattle.board_defs.specs.declared.device.Symbol.{Symbol}
 use Rattle.board_defs.specs.declared.device.RawDevice.{RawDevice}

@@ -51,9 +51,9 @@ fn has_link(chain: &ChainFile) -> bool
     chain.lines().iter().any(|line| is_link(&line.statement))
 }
 
-// Returns the joined files of a chain file and a net file. Takes the net file by value to free it
-// before the board is built, since the net file and the joined net file each hold a copy of all
-// names.
+// Returns the joined files of a chain file and a net file, or the fault of the first LINK pin that
+// is in no net. Takes the net file by value to free it before the board is built, since the net
+// file and the joined net file each hold a copy of all names.
 fn joined_files(alloc: Global, chain: &ChainFile, nets: NetFile) -> Result<Joined, InputFault>
     ensures joined { Gives input_told (λ joined. joined)
         (Is (in_link (joined_files chain.now nets))) result }

@@ -35,8 +35,9 @@ pub fn read_device(alloc: Global, text: TextSlice<'_>) -> Result<Device, InputFa
 }
 
 // Returns the device of the entity in this package, or the fault of the first rule or string that
-// fails. `text` is the number of the entity's text, which the fault reports. The entity's lists,
-// names and texts must be shorter than 2^32.
+// fails. If `package` is None, the package is the entity's default package. `text` is the number of
+// the entity's text, which the fault reports. The entity's lists, names and texts must be shorter
+// than 2^32.
 fn device_in(
     alloc: Global,
     entity: &Entity,
@@ -55,8 +56,8 @@ fn device_in(
 }
 
 // Returns the device of entity number `text` in this package, or the fault of the first rule or
-// string that fails. There must be an entity with this number. The lists, names and texts of each
-// entity must be shorter than 2^32.
+// string that fails. If `package` is None, the package is the entity's default package. There must be
+// an entity with this number. The lists, names and texts of each entity must be shorter than 2^32.
 fn device_of(
     alloc: Global,
     entities: &[Entity],
@@ -99,10 +100,10 @@ fn earlier(chosen: &[(u32, Option<&[u8]>)], i: usize) -> Option<usize>
     None
 }
 
-// Returns the device of choice `i`, or the first fault. If an earlier choice equals choice `i`,
-// copies its device. `i` must be the index of a choice, `devices` must have the devices of the
-// earlier choices, and each choice must name an entity. The lists, names and texts of each entity
-// must be shorter than 2^32.
+// Returns the device of choice `i`, or the choice's first fault. If an earlier choice equals choice
+// `i`, copies the device of the earlier choice from `devices`, which must have the devices of the
+// choices before choice `i`. `i` must be the index of a choice, and the number in each choice must
+// be the index of an entity. The lists, names and texts of each entity must be shorter than 2^32.
 fn next_device(
     alloc: Global,
     entities: &[Entity],
@@ -124,8 +125,9 @@ fn next_device(
     }
 }
 
-// Returns the device of each choice, in the order of the choices, or the first fault. Each choice
-// must name an entity. The lists, names and texts of each entity must be shorter than 2^32.
+// Returns the device of each choice, in the order of the choices, or the first fault. The number in
+// each choice must be the index of an entity. The lists, names and texts of each entity must be
+// shorter than 2^32.
 fn chosen_devices(
     alloc: Global,
     entities: &[Entity],

@@ -36,19 +36,19 @@ answers_fault IsFound text_of IsWorth shown (input.Device text fault) is = (is, 
 answers_fault IsFound text_of IsWorth shown (input.Link fault) is = (is, refl)
 answers_fault IsFound text_of IsWorth shown (input.NoIdent line) is = (is, refl)
 
--- if the put succeeds, the sink takes the whole text
+-- if the write succeeds, the sink takes the whole text
 pub takes_by : {T E : Type 0} {x : T} {r : Result T E} (old new : Shown) (text : Text) → Puts old new text r → r ≡ Ok x → Takes old new text
 takes_by {T} {E} {x} {r} old new text puts ok = (subst (λ (q : Result T E). Puts old new text q) ok puts).whole
 
--- if the put fails, the sink takes some first bytes of the text
+-- if the write fails, the sink takes a prefix of the text, and its count of faults rises
 pub cut_short : {T E : Type 0} {e : E} {r : Result T E} (old new : Shown) (text : Text)
     → Puts old new text r → r ≡ Err e → IsPutInPart text old new
 cut_short {T} {E} {e} {r} old new text puts err =
     let short = subst (λ (q : Result T E). Puts old new text q) err puts in
     record { rose = short.cause; bytes = short.cut.0; takes = short.cut.1 }
 
--- P holds for the result of writing a text if it holds in each of three cases: the sink takes the whole text, the sink takes some first
--- bytes, or memory runs out.
+-- P holds for the result of writing a text if it holds in each of three cases: the sink takes the whole text, the sink fails and takes
+-- a prefix of the text, or memory runs out.
 by_put : (P : Result (Unit {0}) Unput → Type 0) (text : Text) (old new : Shown)
     (result : Result (Unit {0}) Unput) → PutsText text old new result
     → (Takes old new text → P (Ok tt)) → (IsPutInPart text old new → P (Err unput.Write))

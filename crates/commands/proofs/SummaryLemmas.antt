@@ -14,7 +14,7 @@ use Rattle.scan_planner.specs.Plans.{IsPlanOf, scan_count}
 use Rattle.commands.specs.Summary.{counts_line, summary_text}
 use Rattle.commands.proofs.TestLemmas.{plan_text}
 
--- if the sink's count of faults does not rise during a put, the sink takes the whole text
+-- if the sink's count of faults does not rise during a write, the sink takes the whole text
 takes_all : {T E : Type 0} {old new : Shown} {text : List ℕ} (result : Result T E)
     → Puts old new text result → (Rose old.faults new.faults → ⊥) → Takes old new text
 takes_all (Ok x) puts calm = puts.whole

@@ -81,8 +81,8 @@ puts_scan {E} {old} {mid} {new} {r} {x} head scans k within before put ok =
         → Puts {T = Unit {0}} {E = E} old new b (Ok tt)
     unit_put {E} {old} {new} {a} {b} {x} same put = subst (λ (t : Text). Puts {T = Unit {0}} {E = E} old new t (Ok tt)) same put
 
--- if the sink has taken the head and the first `k` scans, and then takes only some first bytes of scan `k`, it has taken only some first
--- bytes of the whole text
+-- if the sink has taken the head and the first `k` scans, and then takes only a prefix of scan `k`'s text, it has taken only a prefix
+-- of the whole text
 pub cut_scan : {E : Type 0} {old mid new : Shown} {r s : Result (Unit {0}) E} {e : E}
     (head tail : Text) (scans : List Scan) (k : ℕ) → k < length scans
     → Puts {T = Unit {0}} {E = E} old mid (head ++ scan_texts (take k scans)) (Ok tt)

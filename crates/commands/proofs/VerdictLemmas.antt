@@ -26,7 +26,7 @@ module _ (listed : ExplainingListed) (unexplained : PassingUnexplained) (board :
             board rows faults rules (passes.0 e) explaining;
       }
 
-  -- if the verdicts are the verdicts on the blocks, each verdict is correct for its block's log
+  -- if each verdict is the verdict on its block (`AreVerdicts`), it is correct for the block's log (`IsRight`)
   pub each_right : (blocks : List Block) (verdicts : List Verdict)
       → AreVerdicts board blocks verdicts
       → EachPair (λ block verdict. IsRight board block.log verdict.pass verdict.faults) blocks

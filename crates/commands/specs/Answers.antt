@@ -16,7 +16,7 @@ use Rattle.commands.specs.declared.unput.Unput.TheVariants as unput
 abbrev pub Nothing : Text → Type 0
 Nothing text = Unit {0}
 
--- the command found a value, and the sink failed after it had taken some first bytes of the value's text
+-- the command found a value, and the sink failed after it had taken a prefix of the value's text
 pub record IsCutBy {A F : Type 0} (IsFound : Result A F → Type 0) (text_of : A → Text) (old new : Shown) : Type 0 where
   pub rose : Rose old.faults new.faults
   pub value : A
@@ -24,7 +24,8 @@ pub record IsCutBy {A F : Type 0} (IsFound : Result A F → Type 0) (text_of : A
   pub bytes : ℕ
   pub takes : Takes old new (take bytes (text_of value))
 
--- the command found a value, the sink took the value's text, and this text has the property `IsWorth`
+-- the command found a value, the sink took the value's text, and `IsWorth`, the property that the
+-- command promises, holds for this text
 pub record IsPutBy {A F : Type 0} (IsFound : Result A F → Type 0) (text_of : A → Text)
     (IsWorth : Text → Type 0) (old new : Shown) : Type 0 where
   pub value : A
@@ -32,8 +33,10 @@ pub record IsPutBy {A F : Type 0} (IsFound : Result A F → Type 0) (text_of : A
   pub takes : Takes old new (text_of value)
   pub worth : IsWorth (text_of value)
 
--- The answer of a command that finds a value or a fault in its texts. If it finds a value, it writes the value's text, or some first bytes
--- of this text if the sink fails. If it finds a fault, it writes nothing and returns the fault. If memory runs out, it writes nothing.
+-- The answer of a command that finds a value or a fault in its texts. If it finds a value, it
+-- writes the value's text, for which `IsWorth` holds, or a prefix of this text if the sink
+-- fails. If it finds a fault, it writes nothing and returns the fault. If memory runs out, it
+-- writes nothing.
 abbrev pub Answers : {A : Type 0} → (Result A InputFault → Type 0) → (A → Text) → (Text → Type 0)
     → Shown → Shown → Result (Unit {0}) Unput → Type 0
 Answers IsFound text_of IsWorth old new (Ok done) = IsPutBy IsFound text_of IsWorth old new

@@ -32,8 +32,10 @@ board_texts chain nets bsdl = record { chain = chain; nets = nets; bsdl = bsdl }
 abbrev pub log_texts : Text → Text → Text → List Text → LogTexts
 log_texts log chain nets bsdl = record { log = log; board = board_texts chain nets bsdl }
 
--- The command with these texts. There must be one text for each of the command's file names, in order. Otherwise the
--- result is `None`. `Make` names no file and ignores the texts.
+-- The command with these texts, which are in the order in which the command names their files. The
+-- number of BSDL texts is not compared with the number of BSDL names. The result is `None` if the
+-- log, the chain file or the net file of the command is missing, or if there is not exactly one
+-- text for `Device`. `Make` names no file and ignores the texts.
 abbrev pub request_of : Command → List Text → Option Request
 request_of (Chain names) (chain ∷ bsdl) = Some (Chain (chain_texts chain bsdl))
 request_of (Ident names) (chain ∷ bsdl) = Some (Ident (chain_texts chain bsdl))

@@ -54,9 +54,9 @@ pub record IsCoverText (texts : BoardTexts) (text : Text) : Type 0 where
   pub rules : IsBoard board
   pub lists : IsCoverList board text
 
--- The text is a test of the board that these texts denote, and the text has a meaning. The test passes if nothing is faulty. After its
--- reset, it is quiet (`IsQuiet`) under every fault set, so it never enables two boundary-scan drivers on one net. The test fails under
--- every nonempty fault set that is observable.
+-- The text is a test of the board that these texts denote (`IsBoardTest`). Its `meaning` is a sequence of TAP clocks. The test passes if
+-- nothing is faulty. After its reset, it is quiet (`IsQuiet`) under every fault set, so it never enables two boundary-scan drivers on one
+-- net. The test fails under every nonempty fault set that is observable.
 pub record IsSvfText (texts : BoardTexts) (text : Text) : Type 0 where
   pub board : RawBoard
   pub denoted : Denotes texts.chain texts.nets texts.bsdl board
@@ -69,8 +69,8 @@ pub record IsIdentTestText (texts : ChainTexts) (text : Text) : Type 0 where
   pub bounds : ArePatterns patterns
   pub tests : IsIdentTest patterns text
 
--- The text is harmless to the board that these texts denote (`IsHarmless`). It has a meaning, and passes if nothing is faulty. After its
--- reset, it is quiet (`IsQuiet`) under every fault set, so it never enables two boundary-scan drivers on one net.
+-- The text is harmless to the board that these texts denote (`IsHarmless`). Its `meaning` is a sequence of TAP clocks. It passes if nothing
+-- is faulty. After its reset, it is quiet (`IsQuiet`) under every fault set, so it never enables two boundary-scan drivers on one net.
 pub record IsWalkText (texts : BoardTexts) (text : Text) : Type 0 where
   pub board : RawBoard
   pub denoted : Denotes texts.chain texts.nets texts.bsdl board
@@ -84,11 +84,13 @@ pub record IsRight (board : RawBoard) (rows : List (List Bool)) (pass : Bool) (f
   pub lists : ListsExplaining board rows faults
   pub none : pass ≡ true → faults ≡ []
 
--- The meaning of the text of the board's test is the clocks of the test's scans. The logs of the test refer to these clocks.
+-- The text of the board's test has a meaning (`meaning`): the TAP clocks of the test's scans. The
+-- logs of the test refer to these clocks.
 abbrev pub TestMeans : RawBoard → Type 0
 TestMeans board = meaning (board_text board) ≡ Some (test_clocks (svf_scans board))
 
--- the meaning of the text of the walking test is the clocks of the walking test's scans
+-- the text of the walking test has a meaning (`meaning`): the TAP clocks of the walking test's
+-- scans
 abbrev pub WalkMeans : RawBoard → Type 0
 WalkMeans board = meaning (board_walk_text board) ≡ Some (test_clocks (walk_scans board))
 
@@ -99,8 +101,10 @@ pub record RespondOnce (board : RawBoard) : Type 0 where
   pub one : (single : Single) (log other : List (List Bool)) → Explains board single log
       → Explains board single other → AgreeOn board (svf_row_scans board) log other
 
--- The text is the diagnosis of a log of the board's test. The log has a row for each compared SDR statement of the test, in the order of
--- the statements. Each row has a bit for each position of a data scan.
+-- The text is the diagnosis of a log of the board's test, and the diagnosis is correct (`IsRight`).
+-- The log has a row for each compared SDR statement of the test, in the order of the statements.
+-- Each row has a bit for each position of a data scan. The text of the test has its meaning
+-- (`TestMeans`), and each single fault has one response to the test (`RespondOnce`).
 pub record Diagnoses (log : Text) (board : RawBoard) (text : Text) : Type 0 where
   pub means : TestMeans board
   pub respond : RespondOnce board
@@ -123,9 +127,10 @@ pub record DiagnosesEach (log : Text) (board : RawBoard) (text : Text) : Type 0 
   pub right : EachPair (λ block verdict. IsRight board block.log verdict.pass verdict.faults) blocks verdicts
   pub is : text ≡ batch_text board blocks verdicts
 
--- The text names the groups that explain a log of a board's walking test. The log has a row for each compared SDR statement of the test.
--- `found` is the only set of groups that explains the log, or `None` if no set explains it. Each set of groups explains some log, and all
--- logs that one set explains have the same compared bits.
+-- The text names the groups that explain a log of a board's walking test, whose text has its
+-- meaning (`WalkMeans`). The log has a row for each compared SDR statement of the test. `found` is
+-- the only set of groups that explains the log, or `None` if no set explains it. Each set of groups
+-- explains some log, and all logs that one set explains have the same compared bits.
 pub record IsGroupsText (log : Text) (board : RawBoard) (text : Text) : Type 0 where
   pub means : WalkMeans board
   pub rows : List (List Bool)
@@ -142,8 +147,9 @@ pub record IsGroupsText (log : Text) (board : RawBoard) (text : Text) : Type 0 w
 abbrev pub OfDenoted : (RawBoard → Text → Type 0) → BoardTexts → Text → Type 0
 OfDenoted P texts text = (board : RawBoard) × Denotes texts.chain texts.nets texts.bsdl board × P board text
 
--- The property of the text that is written for a request. The text of a test tests the chain, the parts or the board. The text of a walking
--- test is harmless (`IsHarmless`). The statements in a list, a diagnosis or the text of `groups` are true. A summary has no stated
+-- The property that a command promises of the text that it writes for a request. The text of a test
+-- tests the chain, the parts or the board. The text of a walking test is harmless (`IsHarmless`).
+-- The statements in a list, a diagnosis or the text of `groups` are true. A summary has no stated
 -- property.
 abbrev pub IsWorthFor : Request → Text → Type 0
 IsWorthFor (Chain texts) text = IsChainTestText texts text

@@ -69,7 +69,8 @@ fn tests_board(board: &Board)
     board_texts_test();
 }
 
-/// States that, for any data scans of the board, the meaning of their text is the clocks of these scans. Does nothing.
+/// States that the text of any data scans of the board has a meaning (`meaning`): the TAP clocks of
+/// the test with these scans. Does nothing.
 pub fn test_means(board: &Board)
     ensures { (scans : List RowScan)
         → meaning (svf_text (board_scans board.now scans))
@@ -101,10 +102,10 @@ fn singles_respond(board: &Board)
 }
 
 /// States the laws on which the diagnoses of a board rest. The board satisfies the rules of a board
-/// (`IsBoard`). The meaning of the text of any data scans is the clocks of these scans. A log with
-/// `test_rows` rows of `data_bits` bits has the shape of a log of the board's test. Each single
-/// fault of the board has one response. A diagnosis lists exactly the faults that explain its log.
-/// No fault explains a log that passes. Does nothing.
+/// (`IsBoard`). The text of any data scans has a meaning (`meaning`): the TAP clocks of the test
+/// with these scans. A log with `test_rows` rows of `data_bits` bits has the shape of a log of the
+/// board's test. Each single fault of the board has one response. A diagnosis lists exactly the
+/// faults that explain its log. No fault explains a log that passes. Does nothing.
 pub fn judging_laws(board: &Board)
     ensures rules { IsBoard board.now }
     ensures means { (scans : List RowScan)
@@ -132,7 +133,7 @@ pub fn longest_scan(board: &Board) -> u32
     board.ir_bits().max(board.dr_bits())
 }
 
-/// The buffers in which the scans of a test are made, and the rows of one whole pass, which are computed once for all scans of the pass.
+/// The buffers for the bits of each scan of a test, and the rows of one whole pass, which are computed once for all scans of the pass.
 #[derive(Drop)]
 pub struct TestRows {
     pub rows: Rows,

@@ -174,7 +174,7 @@ fn is_harmless(board: &Board)
     walk_harmless();
 }
 
-// Like `put_walk`, but also takes the buffers `rows`, in which the scans are made. The rows must have room for them.
+// Like `put_walk`, but also takes `rows`, the buffers for the bits of each scan. The rows must have room for every scan.
 #[tactic(auto, unfolding(tap_defs::specs::chain::Text::svf_text))]
 fn write_walk<K: Sink>(walked: &Walked, rows: &mut Rows, out: &mut K) -> Result<(), PutFault>
     requires { EachStoredHasRoom (IsRoom walked.now.board) rows.old.scan }

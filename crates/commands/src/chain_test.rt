@@ -69,7 +69,7 @@ fn instruction_bits(lengths: &[u32]) -> u32
     lengths.iter().sum()
 }
 
-// Like `put_test`, but also takes the buffers `rows`, in which the scans are made. The rows must have room for them.
+// Like `put_test`, but also takes `rows`, the buffers for the bits of each scan. The rows must have room for every scan.
 #[tactic(auto, unfolding(tap_defs::specs::chain::Text::svf_text))]
 fn write_test<K: Sink>(lengths: &[u32], rows: &mut Rows, out: &mut K) -> Result<(), PutFault>
     requires lengths { AreLengths lengths.now }

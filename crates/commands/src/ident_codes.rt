@@ -49,7 +49,7 @@ fn put_test<K: Sink>(alloc: Global, patterns: &[Option<Code>], out: &mut K) -> R
     answer_by(write_test(patterns, &mut rows, out))
 }
 
-// Like `put_test`, but also takes the buffers `rows`, in which the scan is made. The rows must have room for it.
+// Like `put_test`, but also takes `rows`, the buffers for the bits of the scan. The rows must have room for the scan.
 fn write_test<K: Sink>(
     patterns: &[Option<Code>],
     rows: &mut Rows,

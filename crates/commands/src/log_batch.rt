@@ -66,8 +66,8 @@ fn put_batch<R: Threads + Sync, K: Sink, G: Gate>(
     }
 }
 
-// Diagnoses the logs in these blocks of a batch, and writes the diagnoses. Each log must have the
-// numbers of rows and bits that the board's test needs.
+// Diagnoses the logs in these blocks of a batch, and writes the diagnoses. A block has the log and
+// the id of one board. Each log must have `planned.log_rows()` rows of `planned.log_bits()` bits each.
 fn put_blocks<R: Threads + Sync, K: Sink, G: Gate>(
     rt: &R,
     alloc: Global,
@@ -91,8 +91,9 @@ fn put_blocks<R: Threads + Sync, K: Sink, G: Gate>(
     put_verdicts(alloc, board, blocks, &verdicts, out)
 }
 
-// Writes the verdicts on the blocks. There must be exactly one verdict for each block, in the same order, and the faults of the verdicts
-// must name nets and pins of the board.
+// Writes the verdicts on the blocks. A verdict says whether a log passes and which single faults
+// explain it. There must be exactly one verdict for each block, in the same order, and the faults
+// of the verdicts must name nets and pins of the board.
 fn put_verdicts<K: Sink>(
     alloc: Global,
     board: &Board,

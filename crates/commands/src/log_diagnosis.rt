@@ -92,7 +92,8 @@ fn put_judged<R: Threads + Sync, K: Sink, G: Gate>(
     put_verdict(alloc, board, &verdict, out)
 }
 
-// Writes the verdict on a log. The faults of the verdict must name nets and pins of the board.
+// Writes the verdict on a log, which says whether the log passes and which single faults explain
+// it. The faults of the verdict must name nets and pins of the board.
 fn put_verdict<K: Sink>(
     alloc: Global,
     board: &Board,

@@ -40,7 +40,7 @@ pub fn groups<K: Sink>(alloc: Global, texts: LogTexts, out: &mut K) -> Result<()
     }
 }
 
-// Returns the groups as a slice, or `None` if there are none.
+// Returns the groups as a slice, or `None` if `found` is `None`.
 fn lent(found: &Option<Vec<Group>>) -> Option<&[Group]>
     ensures { option_map (λ groups. groups.now) result
         ≡ option_map (λ groups. groups.items) found.now }
@@ -68,7 +68,8 @@ fn put_groups<K: Sink>(
     }
 }
 
-// Finds the groups that explain a log of the board's walking test, and writes them. The log must have the test's numbers of rows and bits.
+// Finds the groups that explain a log of the board's walking test, and writes them. The log must have `walked.log_rows()` rows of
+// `walked.log_bits()` bits each.
 fn put_grouped<K: Sink>(alloc: Global, walked: &Walked, log: &Log, out: &mut K) -> Result<(), Unput>
     requires size { HasSize (walk_rows walked.now.board) (data_bits walked.now.board) log.now }
     ensures { (text : Text) → walk_log text walked.now.board ≡ Ok log.now

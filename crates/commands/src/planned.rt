@@ -59,7 +59,7 @@ impl Planned {
         BoardTest::of(&self.board, &self.plan)
     }
 
-    /// Returns `log` together with the board's test. The log must have the test's numbers of rows and bits.
+    /// Returns `log` together with the board's test. The log must have `log_rows` rows of `log_bits` bits each.
     pub fn with_log<'a>(&'a self, log: &'a Log) -> LoggedTest<'a>
         requires { HasSize (test_rows self.now.board) (data_bits self.now.board) log.now }
         ensures { result ≡ logged_board self.now log.now }
@@ -132,7 +132,7 @@ fn with_plan(alloc: Global, board: Board) -> Result<Planned, AllocError>
     Ok(Planned { board, plan })
 }
 
-// Returns the plan of the board's passes.
+// Returns the plan of the board's test. The plan has the passes of the board.
 fn board_plan(alloc: Global, board: &Board) -> Result<Plan, AllocError>
     ensures plan { IfOk result (λ plan. IsPlanOf board.now plan) }
     ensures passes { IfOk result (λ plan. plan.passes ≡ passes_of board.now) }

@@ -1,4 +1,4 @@
-// The buffers in which a command makes its scans and collects its output.
+// The buffers that a command uses for the bits of each scan and for its output.
 ghost use Rattle.std.specs.Prelude.{◌≡◌, IfOk};
 ghost use Rattle.commands.specs.inner.Rows.{EachStoredHasRoom};
 

@@ -16,9 +16,10 @@ use std::alloc::AllocError;
 pub enum Unput {
     /// The first fault of the texts.
     Input(InputFault),
-    /// The first fault of a response log that must have `rows` rows.
+    /// The first fault of a response log. `rows` is the number of rows that the log should have.
     Log { rows: u64, fault: LogFault },
-    /// The first fault of a batch of response logs that must have `rows` rows each.
+    /// The first fault of a batch of response logs. `rows` is the number of rows that each log should
+    /// have.
     Batch { rows: u64, fault: BatchFault },
     /// The sink failed before it took the whole output.
     Write,
@@ -44,8 +45,8 @@ pub fn unput_by(fault: InputFault) -> Unput
     }
 }
 
-/// Returns the reason why a command writes nothing if its log has this fault. The log must have
-/// `rows` rows.
+/// Returns the reason why a command writes nothing if its log has this fault. `rows` is the number of
+/// rows that the log should have.
 pub fn unput_by_log(rows: u64, fault: LogFault) -> Unput
     ensures { result ≡ unput_log rows fault }
 {
@@ -55,8 +56,8 @@ pub fn unput_by_log(rows: u64, fault: LogFault) -> Unput
     }
 }
 
-/// Returns the reason why a command writes nothing if its batch of logs has this fault. Each log
-/// must have `rows` rows.
+/// Returns the reason why a command writes nothing if its batch of logs has this fault. `rows` is the
+/// number of rows that each log should have.
 pub fn unput_by_batch(rows: u64, fault: BatchFault) -> Unput
     ensures { result ≡ unput_batch rows fault }
 {

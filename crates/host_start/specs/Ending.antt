@@ -11,11 +11,11 @@ use Rattle.btest_cli.specs.ExitNumbers.{exit_number}
 use Rattle.btest_cli.specs.Texts.{Held}
 use Rattle.btest_cli.specs.Outcome.{AsksSome, ForCommand, IsComplete, IsCutShort, IsDone, IsNotRead, IsRefused, SomeRose, TookOrCut}
 
--- How a run of the command that these words form ended. `held` has the texts of the store. The
--- following pairs are states before and after the run: `before` and `now` are the store's fault
--- counts for each name, `asked` and `asked'` are the names of the texts fetched so far, `out` and
--- `out'` belong to standard output, and `notes` and `notes'` to standard error. `number` is the exit
--- number of the status `ended`.
+-- A run on these command-line words ended with the status `ended`, and `number` is the exit number
+-- of this status. `held` has the texts of the store. The following pairs are states before and
+-- after the run: `before` and `now` are the store's fault counts for each name, `asked` and
+-- `asked'` are the names of the texts fetched so far, `out` and `out'` belong to standard output,
+-- and `notes` and `notes'` to standard error.
 pub record IsEndOf (words : List (String Global)) (held : Held) (before now : Text → ℕ)
     (asked asked' : List Text) (out out' notes notes' : Shown) (number : ℕ) : Type 0 where
   pub ended : Status

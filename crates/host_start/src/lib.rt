@@ -67,7 +67,7 @@ fn end_of<R: Threads + Sync, S: Store, K: Sink, N: Sink>(
     out: &mut K,
     notes: &mut N,
 ) -> u8
-    // If the system gave words, the command that they form was run.
+    // If the system gave words, the program ran on these words and ended as `IsEndOf` says.
     ensures run { IfOk words.now (λ words. IsEndOf words.items (S.held store.old) (S.faults store.old) (S.faults store.new) (S.asked store.old) (S.asked store.new)
         (K.shown out.old) (K.shown out.new) (N.shown notes.old) (N.shown notes.new) result) }
 

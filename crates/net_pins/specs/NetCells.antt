@@ -20,7 +20,7 @@ abbrev pub gathered : {X Y : Type 0} → (ℕ → X → List Y) → ℕ → List
 gathered f place [] = []
 gathered f place (x ∷ xs) = f place x ++ gathered f (suc place) xs
 
--- the list of only this item, or the empty list if there is no item
+-- the list with this item as its only item, or the empty list if there is no item
 abbrev pub optional : {X : Type 0} → Option X → List X
 optional None = []
 optional (Some x) = x ∷ []

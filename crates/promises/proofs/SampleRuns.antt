@@ -105,7 +105,7 @@ noted_whole line = inl refl
 noted_in_part : (line : Text) (count : ℕ) → Notes (unnoted (noting (take count line))) line
 noted_in_part line count = inr (inl (omega arith), (count, refl))
 
--- if no write failed, the notes must not have only the first bytes of the line
+-- if no write failed, the notes must not have only a part of the line
 noted_in_part_alone : Notes (noting (codes "us")) usage_line → ⊥
 noted_in_part_alone (inl is) = apart (codes "us") usage_line refl refl is
 noted_in_part_alone (inr (rose, cut)) = calm rose

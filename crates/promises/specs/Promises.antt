@@ -234,7 +234,7 @@ FilesGive run command outcome =
     ⊎ ((file : Wanted) × IsTooLong run.old.held (files_of command) file × (outcome ≡ Err (long_line file.name file.limit)))
 
 -- At Done, the words ask for a command whose files give the text that the output took. At WriteFault, they ask for a
--- command whose files give a text, and the output took some first bytes of it. At Refused, they ask for a command whose
+-- command whose files give a text, and the output took a prefix of it. At Refused, they ask for a command whose
 -- files give a line, and the notes take this line.
 abbrev pub RestsOnFiles : Run → Type 0
 RestsOnFiles run =
@@ -266,7 +266,7 @@ TellsUnread run =
     × ((held : Text → Option Text) → run.old.held ≡ Some held → (texts : List Text) × HoldsEach run.old.held before texts)
 
 -- The status is WriteFault only if a write of the output failed. The notes then take the line for a failed write. If the store holds the
--- command's texts, the run asked for each file once and in order, and the output took some first bytes of a text that the files give.
+-- command's texts, the run asked for each file once and in order, and the output took a prefix of a text that the files give.
 abbrev pub TellsUnwritten : Run → Type 0
 TellsUnwritten run =
     run.status ≡ WriteFault → Rose run.old.unwritten run.new.unwritten × Notes run write_line
@@ -275,8 +275,8 @@ TellsUnwritten run =
     × ((text : Text) × GivesOutcome command texts (Ok text) × (count : ℕ)
     × PutsOut run (take count text)))
 
--- At NoMemory, the output took nothing, and the notes take the line for lack of memory. The run asked for some first files of the command,
--- each once and in order. They may include files after a file that is too long.
+-- At NoMemory, the output took nothing, and the notes take the line for lack of memory. The run asked for the first `count` files of the
+-- command, for some `count`, each once and in order. They may include files after a file that is too long.
 abbrev pub TellsMemory : Run → Type 0
 TellsMemory run =
     run.status ≡ NoMemory → PutsNothing run × Notes run memory_line × ((command : Command) → HasWordsOf run command → (count : ℕ) × AskedInTurn run (take count (names_in_command command)))

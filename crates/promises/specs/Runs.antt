@@ -160,7 +160,7 @@ PutsOut run bytes = run.new.out ≡ run.old.out ++ bytes
 abbrev pub PutsNothing : Run → Type 0
 PutsNothing run = run.new.out ≡ run.old.out
 
--- the notes took this line, or some first bytes of the line if a write to the notes failed
+-- the notes took this line, or a prefix of the line if a write to the notes failed
 abbrev pub Notes : Run → Text → Type 0
 Notes run line = (run.new.notes ≡ run.old.notes ++ line) ⊎ (Rose run.old.unnoted run.new.unnoted × ((count : ℕ) × (run.new.notes ≡ run.old.notes ++ take count line)))
 

@@ -168,7 +168,7 @@ impl Desk {
     }
 
     /// Runs a command line. Promise: if the status is WriteFault, a write of the output failed, and
-    /// the output took some first bytes of the text.
+    /// the output took a prefix of the text.
     pub fn write_fault<R: Threads + Sync, G: Gate>(
         &mut self,
         rt: &R,

@@ -100,7 +100,8 @@ lex_fault_line name (lex.OpenString n) = at_line name n (codes ": string not clo
 lex_fault_line name (lex.TooMany n) = at_line name n (codes ": too many tokens\n")
 lex_fault_line name (lex.Memory e) = memory_line
 
--- the line for the first point at which a BSDL text does not fit the grammar
+-- the line for the first point at which a BSDL text does not fit the grammar, or at which it has a
+-- package instead of an entity
 abbrev pub parse_fault_line : Text → ParseFault → Text
 parse_fault_line name (parse.Expected n) = at_line name n (codes ": not in the grammar\n")
 parse_fault_line name (parse.Package n) = at_line name n (codes ": package text\n")
@@ -114,8 +115,8 @@ rule_line name number item = whole (name ∷ codes ": rule V" ∷ decimal number
 abbrev pub string_line : Text → ℕ → ℕ → Text
 string_line name attribute entry = whole (name ∷ codes ": " ∷ string_name attribute ∷ codes " entry " ∷ decimal entry ∷ codes "\n" ∷ [])
 
--- the line for the first rule that a device breaks, or the first of its strings that does not fit
--- its grammar
+-- the line for the first rule that a device breaks, or for the first of the device's strings that
+-- does not fit the string's grammar
 abbrev pub device_fault_line : Text → DeviceFault → Text
 device_fault_line name (device.Rule number item) = rule_line name number item
 device_fault_line name (device.Text attribute entry) = string_line name attribute entry

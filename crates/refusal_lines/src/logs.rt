@@ -40,7 +40,8 @@ fn put_missing_rows<N: Sink>(
     )
 }
 
-/// Writes the line for the first fault of a log that must have `rows` rows.
+/// Writes the line for the first fault of a log. `rows` is the number of rows that the log should
+/// have.
 pub fn put_log_fault<N: Sink>(
     name: &str,
     rows: u64,
@@ -111,7 +112,8 @@ fn put_block_fault<N: Sink>(
     }
 }
 
-/// Writes the line for the first fault of a batch of logs that must have `rows` rows each.
+/// Writes the line for the first fault of a batch of logs. `rows` is the number of rows that each log
+/// should have.
 pub fn put_batch_fault<N: Sink>(
     name: &str,
     rows: u64,

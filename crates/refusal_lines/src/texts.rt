@@ -95,7 +95,8 @@ fn put_lex_fault<N: Sink>(name: &str, fault: &LexFault, notes: &mut N) -> Result
     }
 }
 
-// Writes the line for the first point at which a BSDL text does not fit the grammar.
+// Writes the line for the first point at which a BSDL text does not fit the grammar, or at which it
+// has a package instead of an entity.
 fn put_parse_fault<N: Sink>(name: &str, fault: &ParseFault, notes: &mut N) -> Result<(), PutFault>
     ensures { Puts (N.shown notes.old) (N.shown notes.new) (parse_fault_line name.now fault.now)
         result }
@@ -154,8 +155,8 @@ fn put_string_fault<N: Sink>(
     )
 }
 
-// Writes the line for the first rule that a device breaks, or the first of its strings that does not
-// fit its grammar.
+// Writes the line for the first rule that a device breaks, or for the first of the device's strings
+// that does not fit the string's grammar.
 fn put_device_fault<N: Sink>(name: &str, fault: &DeviceFault, notes: &mut N) -> Result<(), PutFault>
     ensures { Puts (N.shown notes.old) (N.shown notes.new) (device_fault_line name.now fault.now)
         result }

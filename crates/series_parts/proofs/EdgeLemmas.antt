@@ -238,7 +238,6 @@ lead_way names labels e es x y inside edge rest (forth q r) i j within_i within_
 lead_way names labels e es x y inside edge rest (back q r) i j within_i within_j is_x is_y =
     rest x (at names e.1) q i e.1 within_i inside.1 is_x refl ∙ sym edge ∙ rest (at names e.0) y r e.0 j inside.0 within_j refl is_y
 
--- if links lead from net `x` to net `y`, the lines of the two nets have the same label
 lead_labels : (names : List Word) (labels : List ℕ) (es : Edges) (x y : Word)
     → OneLabel names labels → Labelled (length names) labels es
     → leads (map (ends names) es) x y ≡ true →
@@ -409,7 +408,8 @@ new_names nets chain names es labels least is whole h count e name =
     ∙ least_names nets chain labels labelled (count ∙ ap length is) in
     ap (λ ns. renamed ns least name) is ∙ renames nets chain least name all ∙ ap (λ ns. joined_name (links nets chain) ns name) (sym is)
 
--- if `renamed` gives the joined name of every net, it is the function `renaming`
+-- if `renamed` with the names `least` gives the joined name of every net, `renamed` with the equal
+-- list `seen` is the function `renaming`
 pub renaming_is : (nets : List NetLine) (chain : List ChainLine) (names least seen : List Word)
     → names ≡ line_names nets → seen ≡ least
     → ((name : Word) → renamed names least name ≡ joined_name (links nets chain) names name) →

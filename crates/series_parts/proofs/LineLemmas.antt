@@ -1,4 +1,5 @@
--- Joining keeps the DEVICE and BYPASS lines, and leaves files without LINK lines unchanged.
+-- A joined chain file has no LINK line, and has the DEVICE and BYPASS lines of the chain file.
+-- Files without LINK lines are their own joined files.
 use Rattle.std.proofs.Common.{◌≡◌, ℕ, false, cond, ◌||◌, List, [], ◌∷◌, map, Option, Some, None, refl, sym, ap, ◌∙◌}
 use Rattle.std.specs.Prelude.{find, Ok, unwrap_or}
 use Rattle.std.specs.List.{AllByRecursion, cons_option}

@@ -18,7 +18,8 @@ pub record IsLink (chain : List ChainLine) (nets : List NetLine) (a b : Word) : 
   pub of_first : net_of_pin nets part first ≡ Some a
   pub of_second : net_of_pin nets part second ≡ Some b
 
--- a path of LINK lines, each of which may be taken in either direction, leads from one net to the other
+-- a path of LINK lines leads from one net to the other; the path may take each line in either
+-- direction, and the empty path leads from a net to itself
 pub data AreJoined (chain : List ChainLine) (nets : List NetLine) : Word → Word → Type 0 where
   itself : {a : Word} → AreJoined chain nets a a
   along : {a b c : Word} → IsLink chain nets a b → AreJoined chain nets b c → AreJoined chain nets a c

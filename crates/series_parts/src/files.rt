@@ -1,4 +1,5 @@
-// Copies the lines of the files, with new names of the nets.
+// Copies the lines of the files, with the new names of the nets. Replaces each LINK line by an
+// INERT line.
 ghost use Rattle.std.specs.Prelude.{◌≡◌, map, IfOk};
 ghost use Rattle.series_parts.specs.inner.Edges.{renamed};
 ghost use Rattle.series_parts.specs.Joining.{joined_line, joined_net, joined_statement};

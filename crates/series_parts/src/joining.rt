@@ -13,15 +13,17 @@ use crate::pins::Pins;
 use board_files::{ChainFile, NetFile};
 use std::alloc::{AllocError, Global};
 
-/// A chain file and a net file in which all nets that LINK lines connected have the same name. The chain file has no LINK line.
+/// A chain file and a net file in which all nets that LINK lines joined have the same name. The
+/// chain file has no LINK line.
 #[derive(Drop)]
 pub struct Joined {
     pub chain: ChainFile,
     pub nets: NetFile,
 }
 
-/// Returns the files in which each net that the net file names has the name of the first net in the
-/// net file that is joined with it. `pins` must have the lines of `nets`.
+/// Returns the joined files. LINK lines join nets into groups, and each net of a group gets the
+/// name of the group's first net in the net file. An INERT line for its part replaces each LINK
+/// line, so no LINK line is left. `pins` must be made from the lines of `nets`.
 fn renamed_files(
     alloc: Global,
     chain: &ChainFile,

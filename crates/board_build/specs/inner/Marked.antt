@@ -1,4 +1,5 @@
--- Marked words: the words of a net file, each with facts about the pin that it names.
+-- Marked words: the words of a net file, each with facts about the pin that it names. A rule on
+-- these words gives a fault, or None if no word breaks the rule.
 use Rattle.std.specs.Prelude.{◌≡◌, ℕ, ◌+◌, ◌<◌, ◌==◌, Bool, false, ◌&&◌, ◌||◌, List, [], ◌∷◌, ◌++◌, length, map, filter, find, nat_lt, slice_get, slice_index_or, slice_set, Option, Some, None, Result, option_and_then, option_map, is_none, is_some, if◌then◌else◌}
 use Rattle.std.proofs.Common.{Bor}
 use Rattle.std.specs.Option.{option_to_list}

@@ -44,7 +44,7 @@ unput_line names (unput.Batch rows fault) = batch_fault_line names.log rows faul
 unput_line names unput.Write = write_line
 unput_line names unput.Memory = memory_line
 
--- the sink took some first bytes of the text that a request gives, and its count of faults rose
+-- the sink took a prefix of the text that a request gives, and its count of faults rose
 pub record IsSinkCut (names : Names) (request : Request) (old new : Shown) : Type 0 where
   pub rose : Rose old.faults new.faults
   pub text : Text
@@ -52,7 +52,8 @@ pub record IsSinkCut (names : Names) (request : Request) (old new : Shown) : Typ
   pub bytes : ℕ
   pub takes : Takes old new (take bytes text)
 
--- the sink took the text that a request gives, and `IsWorthFor` holds for this text
+-- the sink took the text that a request gives, and this text has the property that the command
+-- promises (`IsWorthFor`)
 pub record IsPut (names : Names) (request : Request) (old new : Shown) : Type 0 where
   pub text : Text
   pub gives : IsGiven names request (Ok text)
@@ -67,8 +68,8 @@ IsUnput names request old new (unput.Batch rows fault) = IsGiven names request (
 IsUnput names request old new unput.Write = IsSinkCut names request old new
 IsUnput names request old new unput.Memory = new ≡ old
 
--- What a command wrote and returned for a request is correct: if it returned no failure, the sink took the whole text,
--- and otherwise `IsUnput` holds for the failure.
+-- The command handled the request correctly: if it returned no failure, the sink took the whole
+-- text, and otherwise `IsUnput` holds for the failure.
 abbrev pub IsAnswered : Names → Request → Shown → Shown → Result (Unit {0}) Unput → Type 0
 IsAnswered names request old new (Ok done) = IsPut names request old new
 IsAnswered names request old new (Err failure) = IsUnput names request old new failure

@@ -20,7 +20,7 @@ Continues held wanted front =
     (rest : List Wanted) (reading : Reading) → IsRead held rest reading
     → IsRead held (wanted ++ rest) (behind front reading)
 
--- the run asked the store for some first texts of `wanted`, and for no others
+-- the run asked the store for a prefix of the texts `wanted`, and for no others
 pub record AsksFirst (wanted : List Wanted) (asked asked' : List Text) : Type 0 where
   pub first : List Text
   pub others : List Text
@@ -35,8 +35,10 @@ pub record IsReadOf {A : Type 0} (Of : A → List Text → Type 0) (wanted : Lis
   pub continues : Continues held wanted texts
   pub asks : Asks asked asked' (names_in wanted)
 
--- The reason says why not all texts were read. The run asked the store for the names up to the text that is too long or was not read, or
--- for some first names if memory ran out. If a text is too long, it is the reason whatever texts come after `wanted`.
+-- The reason says why not all texts were read. The run asked the store for the names up to the text
+-- that is too long or was not read, or for a prefix of the names if memory ran out. If a text was
+-- not read, the count of faults of its name rose. If a text is too long, it is the reason whatever
+-- texts come after `wanted`.
 abbrev pub IsUnread : List Wanted → Held → (Text → ℕ) → (Text → ℕ) → List Text → List Text → Unread → Type 0
 IsUnread wanted held before now asked asked' (unread.TooLong last) =
     ((rest : List Wanted) → IsRead held (wanted ++ rest) (TooLong (wanted_view last)))
@@ -60,7 +62,7 @@ pub record Reads {A : Type 0} (Of : A → List Text → Type 0) (wanted : List W
   pub later : (name : Text) → before name ≤ now name
   pub told : TellsRead Of wanted held before now asked asked' result
 
--- `texts` is the list of only `text`
+-- `text` is the only item of `texts`
 abbrev pub IsOne : Text → List Text → Type 0
 IsOne text texts = texts ≡ text ∷ []
 

@@ -1,5 +1,5 @@
--- The properties of a chain file that the joined chain file also has. In joined files, all nets that LINK lines connected have the same
--- name.
+-- The properties of a chain file that the joined chain file also has. In joined files, all nets
+-- that LINK lines connected have the same name.
 use Rattle.std.specs.Prelude.{◌≡◌, List}
 use Rattle.std.specs.List.{AllByRecursion}
 use Rattle.board_files.specs.declared.chain_file.ChainLine.{ChainLine}

@@ -1,4 +1,4 @@
--- The rows in which scans are made. The definitions say how much room the rows have, and which scan they hold.
+-- The rows for the TDI, TDO and MASK bits of a scan: how much room they have, and which scan they hold.
 use Rattle.std.specs.Prelude.{ℕ}
 use Rattle.board_defs.specs.declared.board.RawBoard.{RawBoard}
 use Rattle.tap_defs.specs.declared.scan.Shape.{Shape}

@@ -14,7 +14,7 @@ use Rattle.commands.specs.Requests.{BoardTexts}
 use Rattle.commands.specs.declared.unput.Unput.{Unput}
 use Rattle.commands.specs.declared.unput.Unput.TheVariants as unput
 
--- The reason why a command writes nothing if its log has this fault. The log must have `rows` rows.
+-- The reason why a command writes nothing if its log has this fault. `rows` is the number of rows that the log should have.
 abbrev pub unput_log : ℕ → LogFault → Unput
 unput_log rows (log.Memory e) = unput.Memory
 unput_log rows (log.Digit line) = unput.Log rows (log.Digit line)
@@ -22,7 +22,7 @@ unput_log rows (log.Length line) = unput.Log rows (log.Length line)
 unput_log rows (log.Extra line) = unput.Log rows (log.Extra line)
 unput_log rows (log.Missing found) = unput.Log rows (log.Missing found)
 
--- The reason why a command writes nothing if its batch of logs has this fault. Each log must have `rows` rows.
+-- The reason why a command writes nothing if its batch of logs has this fault. `rows` is the number of rows that each log should have.
 abbrev pub unput_batch : ℕ → BatchFault → Unput
 unput_batch rows (batch.Memory e) = unput.Memory
 unput_batch rows (batch.Start line) = unput.Batch rows (batch.Start line)
@@ -49,14 +49,14 @@ unput_of (input.Device text fault) = unput.Input (input.Device text fault)
 unput_of (input.Link fault) = unput.Input (input.Link fault)
 unput_of (input.NoIdent line) = unput.Input (input.NoIdent line)
 
--- the sink failed after it had taken some first bytes of the text
+-- the sink failed after it had taken a prefix of the text
 pub record IsPutInPart (text : Text) (old new : Shown) : Type 0 where
   pub rose : Rose old.faults new.faults
   pub bytes : ℕ
   pub takes : Takes old new (take bytes text)
 
--- one of three things happened: the sink took the whole text, it failed after it had taken some first bytes, or memory ran out before the
--- first write
+-- one of three things happened: the sink took the whole text, it failed after it had taken a prefix of the text, or memory ran out before
+-- the first write
 abbrev pub PutsText : Text → Shown → Shown → Result (Unit {0}) Unput → Type 0
 PutsText text old new (Ok done) = Takes old new text
 PutsText text old new (Err (unput.Input fault)) = ⊥

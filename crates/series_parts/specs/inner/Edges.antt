@@ -27,7 +27,8 @@ edge_of a b = option_and_then (λ a. option_map (λ b. (a, b)) b) a
 unfoldable pub edge_between : List NetLine → Word → Word → Word → Option (ℕ × ℕ)
 edge_between nets part first second = edge_of (pin_place nets part first) (pin_place nets part second)
 
--- the edge between the first lines of the two pins of a LINK line; None if one of the pins is on no line, and for any other line
+-- the edge between the first lines of the two pins of a LINK line; None if one of the pins is on no
+-- line, and for any other line
 abbrev pub edge_on : List NetLine → ChainStatement → Option (ℕ × ℕ)
 edge_on nets (Link part first second) = edge_between nets part first second
 edge_on nets (Device part entity pack) = None
@@ -52,6 +53,7 @@ abbrev pub at_place : List Word → Word → Option ℕ → Word
 at_place least name None = name
 at_place least name (Some place) = get_or least place name
 
--- the new name of a net; `least` has, for each line, the new name of the line's net
+-- the new name of a net; `least` has, for each line, the new name of the line's net; a net that is
+-- on no line keeps its name
 unfoldable pub renamed : List Word → List Word → Word → Word
 renamed names least name = at_place least name (name_place names name)

@@ -20,8 +20,8 @@ lowered a b v = if (v == a) || (v == b) then min a b else v
 abbrev pub merged : (ℕ → ℕ) → ℕ → ℕ → ℕ → ℕ
 merged label a b x = lowered (label a) (label b) (label x)
 
--- the labels reflect the first `n` edges: each point is joined with its label, and the two ends of
--- each of these edges have the same label
+-- `label` is a labelling of these parents, and it reflects the first `n` edges: each point is
+-- joined with its label, and the two ends of each of these edges have the same label
 pub record Reflects (edges : Edges) (n : ℕ) (parents : List ℕ) (label : ℕ → ℕ) : Type 0 where
   pub labelling : IsLabelling parents label
   pub joined : (x : ℕ) → Joined edges x (label x)

@@ -1,5 +1,5 @@
--- The words that the function computes are those of the definition `standing_words`, which leaves out each word that repeats a pin of
--- its net.
+-- The words that the function computes are those of the definition `standing_words`, which leaves
+-- out each word that repeats a pin of its net.
 use Rattle.std.proofs.Common.{◌≡◌, map, ap, subst, ◌∙◌}
 use Rattle.answers.specs.Gives.{Gives}
 use Rattle.board_lines.specs.Faults.{board_told}

@@ -1,4 +1,4 @@
--- The code reads the file one line at a time.
+-- Each step of the loop reads one more line. A line without words gives no value.
 use Rattle.std.proofs.Common.{◌≡◌, ◌+◌, ◌<◌, ◌≤◌, ◌^◌, ◌++◌, ◌∷◌, [], length, map, ap, ◌∙◌, sym, Ok, rules, arith}
 use Rattle.std.specs.Prelude.{option_copied}
 use Rattle.std.proofs.lemmas.List.{length-map, length_push}

@@ -3,7 +3,8 @@ use Rattle.btest_cli.specs.inner.Reads.{AreAll, Reads}
 use Rattle.btest_cli.proofs.ReadingLemmas.{called}
 use Rattle.btest_cli.proofs.texts.read_texts.Given as goal
 
--- the texts with the names before `name` were read
+-- The texts with the names before `name` were read, and the list has these texts. Each of them has
+-- fewer than 2^32 bytes.
 abbrev pub invariant-loop-name : goal.invariant-loop-name
 invariant-loop-name g l = record {
   reads : Reads AreAll (called (take l.name-index l.names)) (g.S.Store.held l.fn.store)
