@@ -59,8 +59,8 @@ set_row len i words word j bit are within less is =
     let row = digit_row len (map (digit_in j) words) in
     row_bits-is (set row i bit) len _ (length-set row i bit ∙ (are j less).count) (set_digits len i words word j bit are within less is)
 
--- The product of a digit and the word in which each digit is 1 has this digit at all 16 places. The proof computes all
--- cases.
+-- The product of a digit and the word in which each digit is 1 has 16 digits, and each is this digit. The
+-- proof computes all cases.
 digit_in-each : (digit j : ℕ) → digit < 16 → j < 16 → digit_in j (digit * 1229782938247303441) ≡ digit
 digit_in-each digit j small less =
     same_digit (digit * 1229782938247303441) digit

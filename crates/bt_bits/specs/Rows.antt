@@ -3,8 +3,7 @@ use Rattle.std.specs.Prelude.{◌≡◌, ℕ, List, Bool, length, refl}
 use Rattle.std.specs.Coded.{Coded, code_by, coded×, coded_ℕ, coded_list, coded_bool}
 use Rattle.bt_bits.specs.Digits.{digits_of}
 
--- The bits of a row, and the number of bits for which the row has room. The bit at place 0 is
--- shifted first.
+-- The bits of a row, and the number of bits for which the row has room. Bit 0 is shifted first.
 pub record BitRow : Type 0 where
   pub bits : List Bool
   pub room : ℕ

@@ -12,7 +12,8 @@ use crate::Line;
 // A value that no digit has. It marks a byte that is not a digit.
 const NO_VALUE: u8 = 16;
 
-/// Returns the number of hexadecimal digits that `bits` bits need.
+/// Returns the number of hexadecimal digits that `bits` bits need. There must be fewer than
+/// `2 ^ 63` bits.
 #[inline]
 pub fn digit_count(bits: usize) -> usize
     requires { bits < 2 ^ 63 }

@@ -26,9 +26,9 @@ pub enum HexFault {
     Digit,
 }
 
-/// The bits of a register. The bit at place 0 is shifted first. The room of a row is the largest
-/// number of bits that it can have, and never changes. `with_room` allocates one byte for every
-/// four bits of the room.
+/// The bits of a register. Bit 0 is shifted first. The room of a row is the largest number of bits
+/// that it can have, and never changes. `with_room` allocates one byte for every four bits of the
+/// room.
 #[derive(Drop)]
 pub struct Row {
     // The digits of the bits. The first bit is the lowest bit of the first digit.

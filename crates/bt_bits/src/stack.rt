@@ -1,5 +1,4 @@
-// Sixteen rows of equal length, stored side by side, so that one memory write sets the bits of all
-// rows at a place.
+// Sixteen rows of equal length, stored side by side, so that one memory write sets bit `i` of all rows.
 ghost use Rattle.std.specs.Prelude.{◌≡◌, ◌<◌, ◌≤◌, ◌*◌, ℕ, [], All, length, map, vec_capacity, IfOk, slice_set};
 ghost use Rattle.bt_bits.specs.Digits.{digit_bit};
 ghost use Rattle.bt_bits.specs.Stacks.{AreStacked, column_bit, digit_in, stacked};
@@ -20,7 +19,7 @@ const SPREAD: [u64; 16] = [
     0x1100, 0x1101, 0x1110, 0x1111,
 ];
 
-/// The bits of 16 rows at one place.
+/// The bits of 16 rows at one position.
 #[derive(Clone, Copy, Debug)]
 pub struct Column {
     word: u64,
@@ -110,7 +109,7 @@ fn with_column(word: u64, k: u32, column: Column) -> u64
 /// can have, and never changes. `with_room` allocates eight bytes for every four bits of the room.
 #[derive(Drop)]
 pub struct RowStack {
-    // The word at a place has the digits of all rows at that place. Row 0 has the lowest digit.
+    // Word `k` has digit `k` of each row, and the digit of row 0 is the lowest.
     words: Vec<u64>,
     len: u32,
     room: u32,
@@ -153,7 +152,7 @@ impl RowStack {
         self.len
     }
 
-    // Returns the words. The word at a place has the digits of all rows at that place.
+    // Returns the words. Word `k` has digit `k` of each row.
     pub(crate) fn words(&self) -> &[u64]
         ensures words { result.now ≡ self.now.words }
         ensures stacked { AreStacked self.now.len self.now.words }
@@ -183,7 +182,7 @@ impl RowStack {
         self.len = rows.len;
     }
 
-    /// Sets place `i` of every row to that row's bit in the column. Does nothing if `i` is past the end.
+    /// Sets bit `i` of every row to that row's bit in the column. Does nothing if the rows have no bit `i`.
     #[inline]
     pub fn set(&mut self, i: u32, column: Column)
         ensures rows { (j : ℕ) → j < 16

@@ -13,7 +13,8 @@ abbrev pub IsCoded : Option (List Symbol) → TestLogic → Type 0
 IsCoded (Some pattern) part = (part.at_reset ≡ Some Idcode) × (length part.idcode ≡ 32)
 IsCoded None part = part.at_reset ≡ Some Bypass
 
--- There are as many parts as patterns, and each part is coded for the pattern at its place.
+-- There are as many parts as patterns, and each part is coded (`IsCoded`) for the pattern with the same
+-- index.
 abbrev pub AreCoded : List (Option (List Symbol)) → List TestLogic → Type 0
 AreCoded [] [] = Unit {0}
 AreCoded [] (part ∷ parts) = ⊥

@@ -22,7 +22,8 @@ abbrev pub register_pattern : Option (List Symbol) → List Symbol
 register_pattern (Some pattern) = pattern
 register_pattern None = Zero ∷ []
 
--- the scan bits for the registers of all parts, from TDI to TDO, joined into one scan
+-- The bits of one scan through the registers of all parts. The patterns are in the order of the parts from TDI to TDO.
+-- The last part's bits come first, because its register is nearest TDO.
 abbrev pub ident_bits : List (Option (List Symbol)) → List ScanBit
 ident_bits patterns = joined (map (λ part. map symbol_bit (register_pattern part)) patterns)
 

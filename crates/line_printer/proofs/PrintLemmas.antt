@@ -1,4 +1,4 @@
--- Lemmas about a text that is printed in pieces. If a put fails, the text is cut short.
+-- Lemmas about a text that is printed in pieces. If a write to the sink fails, the text is cut short.
 use Rattle.std.proofs.Common.{◌≡◌, ℕ, ◌+◌, ◌-◌, ◌<◌, min, List, [], ◌∷◌, ◌++◌, length, take, refl, sym, ap, ◌∙◌, append_assoc, append-nil, arith, subst, Result, Ok, Err, IsErr, true, false, inl, inr, map, drop, Bor, get_or}
 use Rattle.std.proofs.Math.Seq.{take-add}
 use Rattle.std.proofs.lemmas.List.{drop_more, take_more, take-append-drop}
@@ -110,7 +110,8 @@ prints_done {T} {U} {E} {F} {old} {new} {p} {l} {a} {r} {x} {y} prints ok = reco
   cause = tt;
 }
 
--- If the buffer had the bytes `p`, and a call puts `p ++ a` to the sink and leaves the buffer empty, the call prints `a`.
+-- If the buffer had the bytes `p`, and a call writes `p ++ a` to the sink and leaves the buffer empty, the
+-- call prints `a`.
 pub prints_put : {T E : Type 0} {old new : Shown} {p l a b : List ℕ} {r : Result T E}
     → Puts old new b r → b ≡ p ++ a → l ≡ [] → Prints old new p l a r
 prints_put {T} {E} {old} {new} {p} {l} {a} {b} {r} put same empty = by r put

@@ -80,7 +80,7 @@ pub fn end_line<K: Sink>(line: &mut Line, out: &mut K) -> Result<(), PutFault>
 }
 
 /// Writes a line of text that consists of these pieces and a line feed. If this text has at most
-/// `MAX_LINE` bytes, it is written in one put. The old content of the buffer `line` is lost.
+/// `MAX_LINE` bytes, the sink gets it in one write. The old content of the buffer `line` is lost.
 pub fn put_line<K: Sink>(pieces: &[&[u8]], line: &mut Line, out: &mut K) -> Result<(), PutFault>
     ensures { Prints (K.shown out.old) (K.shown out.new) [] []
         (line_of (map (λ p. p.now) pieces.now)) result }

@@ -1,5 +1,5 @@
--- Lemmas about lists and their places that std does not have (std has `slice_get_within`,
--- `length_push`, `list_any-append` and others).
+-- Lemmas about lists and their indexes that std does not have (std has `slice_get_within`, `length_push`,
+-- `list_any-append` and others).
 use Rattle.std.proofs.Common.{◌≡◌, ℕ, zero, suc, ◌+◌, ◌<◌, Bool, true, false, cond, ◌||◌, List, [], ◌∷◌, ◌++◌, length, map, replicate, Some, refl, ap, ◌∙◌, arith, add-one}
 use Rattle.std.specs.Prelude.{slice_get, filter}
 use Rattle.std.specs.List.{list_any, position_from, range_with_len}

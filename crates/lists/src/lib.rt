@@ -1,5 +1,6 @@
-//! Helpers for lists: a vector whose value in contracts is the list of its items (`Items`), flags that are read and set by their place,
-//! tables in which each row is a list, and a push that appends an item only if a condition is true.
+//! Helpers for lists: a vector whose value in contracts is the list of its items (`Items`), flags that are
+//! read and set by their index, tables in which each row is a list, and a push that appends an item only if a
+//! condition is true.
 #![tactic(auto)]
 
 mod flags;

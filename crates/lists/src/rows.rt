@@ -27,7 +27,7 @@ pub fn note<T: Drop>(rows: &mut [Items<T>], place: usize, item: T) -> Result<(),
     Ok(())
 }
 
-/// Like `note`, but does nothing if there is no place.
+/// Like `note`, but also does nothing if `place` is None.
 pub fn note_where<T: Drop>(
     rows: &mut [Items<T>],
     place: Option<u32>,

@@ -199,7 +199,8 @@ observing_is board s safe n net is_net d h on beside = by_found (find (λ x. is_
         let same : e ≡ d = one_driver board s safe n net is_net e d k.0 h k.1 on in
         ap (λ (x : NetDriver). cond (is_read_beside readers x) (Some x) None) same ∙ ap (λ (t : Bool). cond t (Some d) None) beside
 
--- The setting enables driver `d`, and another pin has a compared cell. This follows if the setting observes the net by `d`.
+-- `d` is one of the net's drivers, the setting enables it, and another pin of the net has a compared cell.
+-- All this is true if the setting observes the net by `d`.
 pub record Enabled (s : Enabling) (drivers : List NetDriver) (readers : List ReaderCell) (d : NetDriver) : Type 0 where
   pub is_in : Has drivers d
   pub on : is_driver_on s d.ctl ≡ true

@@ -1,4 +1,5 @@
--- Lemmas about the places of pins in nets, and about the driving and reading entries of cells.
+-- Lemmas about the indexes of pins in nets (their places), and about the driving and reading entries of
+-- cells.
 use Rattle.std.proofs.Common.{◌≡◌, ℕ, ◌==◌, Bool, true, ◌&&◌, Option, Some, None, refl, sym, ap, ◌∙◌, subst}
 use Rattle.std.specs.Prelude.{slice_get, option_and_then}
 use Rattle.std.proofs.lemmas.Bool.{and_parts, eq-eqb, eqb-true}
@@ -21,7 +22,8 @@ use Rattle.tap_defs.proofs.board.NetRuleLemmas.{all_read, board_rules}
 use Rattle.tap_defs.proofs.board.QuietLemmas.{device_of}
 use Rattle.tap_defs.proofs.board.ReadingLemmas.{IsRead}
 
--- the pin at `at` is at place `place` of net `n`, and its part has a device
+-- the pin at port bit `at` is pin `place` of net `n`, and its part is described by a device that keeps the
+-- rules of `IsWired` and `IsRead`
 pub record Standing (board : RawBoard) (n : ℕ) (net : Net) (place : ℕ) (at : PinAt) : Type 0 where
   pub device : RawDevice
   pub is_device : device_at board at.part ≡ Some device

@@ -31,8 +31,9 @@ fn mark_held(flags: &mut [bool], held: &[HeldCell])
     }
 }
 
-// Updates the run of a position for pass `k`, which has a control whose cell is there. The run grows by one if it is
-// `k`, that is, if all earlier passes have such a control. `k + 1` must be below 2^32.
+// Updates the run of a position for pass `k`, which has a control whose cell is there. The run grows by one
+// if it is `k`, that is, if all earlier passes have such a control. Does nothing if the position is past the
+// end. `k + 1` must be below 2^32.
 fn run(runs: &mut [u32], k: u32, position: usize)
     requires { k + 1 < 2 ^ 32 }
     ensures { runs.new ≡ run_at k runs.old position }

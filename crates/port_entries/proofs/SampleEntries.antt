@@ -57,7 +57,8 @@ reads = cell 0 Input (Some 0) ∷ []
 abbrev drives : List Cell
 drives = cell 1 Output3 (Some 0) ∷ []
 
--- whether a port bit is dark depends on its mode and its entries
+-- the mode and the entries of a port bit decide if it is dark; a port bit of the test access port is never
+-- dark
 read_input : dark_by (Some (port_bit Inward false)) reads ≡ false
 read_input = refl
 
@@ -76,7 +77,7 @@ unread_input = refl
 test_port : dark_by (Some (port_bit Inward true)) [] ≡ false
 test_port = refl
 
--- whether a port bit is a receiver depends on its mode and its entries
+-- the mode and the entries of a port bit decide if it is a receiver
 input_receives : receives_with (Some (port_bit Inward false)) reads ≡ true
 input_receives = refl
 

@@ -1,5 +1,5 @@
 // The entries of one port bit. A board has tens of thousands of port bits. Most of them have one entry, or one
-// entry that reads and one that drives. So the type stores up to two items without memory of its own.
+// entry that reads and one that drives. So the type allocates no memory for up to two items.
 ghost use Rattle.std.specs.Prelude.{◌≡◌, [], replicate, Some, IfOk, OnOk};
 ghost use Rattle.lists.specs.Rows.{noted};
 

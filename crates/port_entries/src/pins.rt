@@ -1,5 +1,5 @@
-// Finds driving entries, receivers, dark pins and guarded nets in the board's table of entries. The table has the entries
-// of each port bit.
+// Finds driving entries, receivers, dark pins and guarded nets in the board's table of entries. The table has
+// the entries of each port bit. A dark pin may drive its net although no setting controls it.
 ghost use Rattle.std.specs.Prelude.{◌≡◌, ◌&&◌, ◌||◌, find, Some};
 ghost use Rattle.std.specs.List.{list_any};
 ghost use Rattle.board_defs.specs.DeviceRules.{is_driving, is_receiving, may_receive};
@@ -46,8 +46,8 @@ fn receives_there(rows: &[Items<BitEntries>], board: &RawBoard, at: PinAt) -> bo
     }
 }
 
-/// Returns whether the pin at this place of the chain is a receiver. Returns false if the pin has no place. `rows` must
-/// be the board's table of entries.
+/// Returns whether the pin at port bit `at` is a receiver. Returns false if `at` is None, as for a pin of a
+/// part without a description. `rows` must be the board's table of entries.
 pub fn receives(rows: &[Items<BitEntries>], board: &RawBoard, at: Option<PinAt>) -> bool
     requires { AreEntries board.now rows.now }
     ensures { result ≡ receives_where board.now at }
@@ -115,8 +115,9 @@ fn guards_bit(bit: &PortBit, entries: &[Cell]) -> bool
     is_test_bit(bit) || is_dark_bit(bit, entries)
 }
 
-// Returns whether a pin guards its net: it is a test pin or a dark pin. Looks up the port bit once for both conditions, since `any_guards`
-// calls this function for each pin of each net.
+// Returns whether a pin guards its net: it is a pin of a test access port, a pin that compliance patterns
+// name, or a dark pin. Looks up the port bit once for both conditions, since `any_guards` calls this function
+// for each pin of each net.
 fn guards(rows: &[Items<BitEntries>], board: &RawBoard, pin: &NetPin) -> bool
     ensures { result ≡ guards_in rows.now board.now pin.now }
 {

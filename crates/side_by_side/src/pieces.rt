@@ -1,4 +1,5 @@
-// The pieces of a list of items, and the joining of the pieces' results.
+// The pieces of a list of items, and the joining of their answers. The answer for a piece is the list or the
+// fault that the work on the piece returns.
 ghost use Rattle.std.specs.Prelude.{◌≡◌, ◌⊎◌, ◌<◌, ◌≤◌, Ok, Err, MatchResult, alloc_error};
 ghost use Rattle.side_by_side.specs.Pieces.{GivesTogether, piece_of, piece_start, together};
 

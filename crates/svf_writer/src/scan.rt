@@ -109,8 +109,9 @@ fn put_full_line<K: Sink>(
     done
 }
 
-// Returns whether the fields of a scan fit into the line with its command. The line must already
-// have the command, and the row must have at most `most_bits` bits.
+// Returns whether the fields of a scan fit into the line with its command, which may have at most
+// 80 characters. The line must already have the command, and the row must have at most `most_bits`
+// bits.
 fn has_room(compare: bool, tdi: &Row, line: &Line) -> bool
     requires { length tdi.now.bits ≤ most_bits }
     ensures { IsTrue result
@@ -216,7 +217,7 @@ fn put_lines<K: Sink>(
 
 /// Writes the statement of a scan (SVF Revision E, SIR and SDR). A statement of at most 80
 /// characters is one line. A longer statement has its command in one line, and each field in lines
-/// of at most 64 digits. Each put to the sink writes one line.
+/// of at most 64 digits. Each line is one write to the sink.
 ///
 /// The rows must have the same length, from 1 to 65,535 bits. `shape.compare` must say whether the
 /// mask has a 1. Wherever TDO has a 1, the mask must have a 1. The call allocates nothing. `line`

@@ -53,9 +53,9 @@ pub fn scans_placed()
         → AreTestScans board passes width (test_scans board passes width) }
 {}
 
-/// If every pass is safe, the SVF text of the passes passes on the board without faults, and is
-/// quiet under every fault set. A quiet text (`IsQuiet`) is safe to apply: drivers never conflict,
-/// and unused cells keep their safe values.
+/// If every pass is safe, the SVF text of the passes passes on the board without faults, and is quiet under
+/// every fault set. A quiet text (`IsQuiet`) is safe to apply: from the fifth clock on, no two drivers ever
+/// drive a net together, and unused cells keep their safe values.
 pub fn passes_harmless()
     ensures { (board : RawBoard) (passes : List (List Ctl)) (width : ℕ) → IsBoard board
         → ((x : ℕ) (pass : List Ctl) → slice_get passes x ≡ Some pass → IsSafe board (holds pass))
@@ -115,9 +115,11 @@ pub fn one_response()
         (row_captured board faults scan.before other) }
 {}
 
-/// While a row with a safe setting is in the latches, the enabled driver of an unguarded net drives
-/// the net to the bit of the driver's cell. A net without an enabled driver is undriven. A driver
-/// that its own cell controls drives nothing if the cell has the disable value.
+/// While a row with a safe setting is in the latches, the row alone decides what drives a net that is not
+/// guarded. The net's enabled driver drives it to the bit of the driver's cell, unless the driver's own cell
+/// controls it and has the disable value. In this case, and without an enabled driver, the net is undriven. A
+/// net is guarded if it carries a supply, or has a pin of a test access port, a pin that compliance patterns
+/// name, or a dark pin. A dark pin may drive its net although no setting controls it.
 pub fn rows_drive()
     ensures { (board : RawBoard) (row : TestRow) (n : ℕ) (net : Net) → IsBoard board
         → IsSafe board row.setting → slice_get board.nets n ≡ Some net → guarded board net ≡ false
@@ -192,10 +194,10 @@ pub fn scans_in_turn()
         → AreInTurn board (walk_row_scans board walk) }
 {}
 
-/// If each scan compares the row that is in the latches (`AreInTurn`), faults explain a log if and
-/// only if two conditions are met. The log has the shape of the test. Each compared bit in it is
-/// the bit that the cell captures under these faults, whatever the free bits are, while the row of
-/// the previous scan is in the latches.
+/// Let each scan compare the row that is in the latches, and let every compared row have a safe
+/// setting (`AreInTurn`). Faults explain a log if and only if two conditions are met. The log has
+/// the shape of the test. Each compared bit in it is the bit that the cell captures under these
+/// faults, whatever the free bits are, while the row of the previous scan is in the latches.
 pub fn logs_by_rows()
     ensures { (board : RawBoard) (faults : FaultSet) (scans : List RowScan) (log : List (List Bool))
         → IsBoard board → AreInTurn board scans
@@ -203,10 +205,11 @@ pub fn logs_by_rows()
         ↔ (HasShape board scans log × IsCapturedBy board faults scans log) }
 {}
 
-/// Let each scan of the test compare the row that is in the latches (`AreInTurn`). A fault set of
-/// the board in which no open pin is on a shorted net explains some log of the test. Any two logs
-/// that the same faults explain have the same compared bits. Every single fault of a board explains
-/// some log, so it determines every compared bit of its logs.
+/// Let each scan of the test compare the row that is in the latches, and let every compared row
+/// have a safe setting (`AreInTurn`). A fault set of the board in which no open pin is on a shorted
+/// net explains some log of the test. Any two logs that the same faults explain have the same
+/// compared bits. Every single fault of a board explains some log, so it determines every compared
+/// bit of its logs.
 pub fn one_log()
     ensures some { (board : RawBoard) (faults : FaultSet) (scans : List RowScan) → IsBoard board
         → IsFaultSet board faults → NoOpenShorted faults → AreInTurn board scans
@@ -220,10 +223,10 @@ pub fn one_log()
         → (log : List (List Bool)) × ExplainedBy board (set_of single) scans log }
 {}
 
-/// Let each scan of the test compare the row that is in the latches (`AreInTurn`), as in the test
-/// that is generated for a board. A single fault of a board explains a log if and only if the log
-/// has the shape of the test and each compared cell has the bit that `single_bit` gives for the
-/// fault.
+/// Let each scan of the test compare the row that is in the latches, and let every compared row
+/// have a safe setting (`AreInTurn`), as in the test that is generated for a board. A single fault
+/// of a board explains a log if and only if the log has the shape of the test and each compared
+/// cell has the bit that `single_bit` gives for the fault.
 pub fn singles_respond()
     ensures bits { (board : RawBoard) (single : Single) (scans : List RowScan)
         (log : List (List Bool)) → IsBoard board → IsSingle board single → AreInTurn board scans

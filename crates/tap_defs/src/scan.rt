@@ -11,8 +11,8 @@ pub struct Shape {
     pub compare: bool,
 }
 
-/// The three rows of a scan, in memory of their own: the bits that are shifted in, the bits that
-/// are expected at TDO, and the mask of the bits that are compared.
+/// The three rows of a scan, owned by this value: the bits that are shifted in, the bits that are
+/// expected at TDO, and the mask of the bits that are compared.
 #[derive(Drop)]
 pub struct StoredRows {
     pub tdi: Row,

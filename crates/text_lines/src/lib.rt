@@ -65,8 +65,9 @@ pub fn is_word(word: &[u8]) -> bool
     is_filled(word) && word.len() <= MOST_WORD_BYTES && is_graphic(word)
 }
 
-// Returns the place of the first byte that equals `byte`. Compares the first byte before it starts
-// a search, because a text may have millions of empty lines.
+// Returns the index of the first byte that equals `byte`, or None if there is no such byte.
+// Compares the first byte before it starts a search, because a text may have millions of empty
+// lines.
 fn place_of(text: &[u8], byte: u8) -> Option<usize>
     ensures { IsFirstByte (is_byte byte) text.now result }
 {
@@ -134,8 +135,8 @@ fn cut_at_blank(text: &[u8]) -> Option<(&[u8], &[u8])>
     }
 }
 
-// Returns the word at the front of the text, and the text after it. The text must begin with a
-// word.
+// Returns the word at the front of the text, and the text after the word and the blank that ends
+// it. The text must begin with a word.
 fn cut_word(text: &[u8]) -> (&[u8], &[u8])
     requires first { begins_blank text.now ≡ false }
     requires word { begins_word text.now ≡ true }
@@ -148,7 +149,8 @@ fn cut_word(text: &[u8]) -> (&[u8], &[u8])
     }
 }
 
-/// Returns the first word of a line and the text after it, or None if the line has no word.
+/// Returns the first word of a line and the text after the word and the blank that ends it. Returns
+/// None if the line has no word. A comment has no words.
 pub fn next_word(line: &[u8]) -> Option<(&[u8], &[u8])>
     ensures words { MatchOption result (words_of line.now ≡ [])
         (λ cut. words_of line.now ≡ cut.0.now ∷ words_of cut.1.now) }

@@ -20,8 +20,8 @@ digits_text (x ∷ xs) = digits_text xs ++ digit_char x ∷ []
 abbrev pub IsValueOf : ℕ → ℕ → Type 0
 IsValueOf c x = MatchBool (nat_lt x 16) (digit_bits c ≡ Some (bits_of (x ∷ []))) (digit_bits c ≡ None)
 
--- If `all` is true, the bytes of the text from place `at` on are digits, `digits` has their values, the rightmost
--- first, and each value is less than 16. If `all` is false, some byte of the text is not a digit.
+-- If `all` is true, the bytes of the text from byte `at` on are digits, `digits` has their values, the
+-- rightmost first, and each value is less than 16. If `all` is false, some byte of the text is not a digit.
 abbrev pub AreDigitsFrom : List ℕ → ℕ → List ℕ → Bool → Type 0
 AreDigitsFrom text at digits all =
     MatchBool all ((text_bits (drop at text) ≡ Some (bits_of digits)) × All (λ x. x < 16) digits) (text_bits text ≡ None)

@@ -13,8 +13,8 @@ use Rattle.board_defs.specs.Pins.{described, bit_at, is_test_pin}
 use Rattle.lists.specs.Rows.{noted}
 use Rattle.port_entries.specs.Entries.{entries_at}
 
--- the table's row of a part, which has a list of entries for each port bit, after the entries
--- `cells` are added
+-- A part's row of the table after the entries `cells` are added. The row has a list of entries for each port bit. An
+-- entry without a port bit is left out.
 abbrev pub entries_noted : List (List Cell) → List Cell → List (List Cell)
 entries_noted rows cells = fold (λ done cell. noted done cell.bit cell) rows cells
 

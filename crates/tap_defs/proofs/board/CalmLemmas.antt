@@ -435,7 +435,8 @@ module _ (board : RawBoard) (rules : IsBoard board) (faults : FaultSet) where
       (sym (run_logics around four free states ∙ start.logics_are)) (logics_off board.chain) in
       chain_off n4 (bits_at_pins around (f 0) n4) (f 0).parts true (f 0).tdi (run_resets around free states) off
 
-  -- From the fifth clock of the text to its end, the board stays quiet if every pass is safe.
+  -- From the fifth clock of the text to its end, the board stays quiet if the setting of every pass is safe
+  -- and no row of a pass enables a control that is not in the setting of the pass.
   whole_stays : (setting : List Ctl → Enabling) (rows : List Ctl → ℕ → TestRow) (width : ℕ) (ps : List (List Ctl)) →
       ((x : ℕ) (p : List Ctl) → slice_get ps x ≡ Some p → IsSafe board (setting p)) →
       ((p : List Ctl) (j : ℕ) → Within (rows p j).setting (setting p)) → (states : List ChainPart) (free : Choices) →

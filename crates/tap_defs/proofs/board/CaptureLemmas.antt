@@ -1,4 +1,5 @@
--- What a data scan captures on a board depends only on the row in the latches, the faults and the free bits.
+-- The bits that a data scan captures on a board depend only on the row in the latches, the faults and the
+-- free bits.
 use Rattle.std.proofs.Common.{◌≡◌, ◌↔◌, ℕ, suc, ◌<◌, Bool, true, false, cond, ◌&&◌, ◌||◌, List, [], ◌∷◌, ◌++◌, length, map, replicate, Option, Some, None, refl, sym, ◌∙◌, ap, subst, arith, append_assoc}
 use Rattle.std.specs.Prelude.{is_some}
 use Rattle.std.proofs.lemmas.Bool.{and_parts, and_from}
@@ -97,8 +98,8 @@ module _ (board : RawBoard) (rules : IsBoard board) (faults : FaultSet) where
   abbrev Held : TestRow → TestRow → List ChainPart → Type 0
   Held row before chain = IsBoardChain board chain × InTest board (shifted_row board (record { now = row; before = before })) chain
 
-  -- The effect of one scan that begins while `row` is in the latches. It passes if and only if it passes with the bits
-  -- that the board captures for `row`. Afterwards the row that the scan shifted in is in the latches.
+  -- The effect of one scan that begins while `row` is in the latches. The scan passes if and only if the bits that the
+  -- board captures for `row` are the expected ones. Afterwards the row that the scan shifted in is in the latches.
   record Scanned (t : RowScan) (row : TestRow) (scan : Scan) (free : Choices) (chain : List ChainPart) : Type 0 where
     compares : run_passes (scan_clocks scan) (tdos around (scan_clocks scan) free chain)
         ≡ scan_passes scan.bits (row_captured board faults row (free 2))
@@ -400,8 +401,8 @@ some_start board = record { logics_are = same (board_logics board); states_are =
       states parts,
     )
 
--- The head of a test and its first three scans. If the expected bits come from a log, these scans compare nothing.
--- After them, the parts have EXTEST.
+-- The head of a test and its first three scans. If the expected bits come from a log, these scans compare
+-- nothing. After them, the described parts have EXTEST.
 module _ (board : RawBoard) (rules : IsBoard board) (faults : FaultSet) (ts : List RowScan) (log : List (List Bool)) where
   abbrev env : Wiring
   env = board_wiring board faults
@@ -483,7 +484,7 @@ module _ (board : RawBoard) (rules : IsBoard board) (faults : FaultSet) (ts : Li
         ∙ after-append (sir_clocks preload) (sdr_clocks quiet ++ sir_clocks extest) f
         ∙ after-append (sdr_clocks quiet) (sir_clocks extest) (choices_after (sir_clocks preload) f)
 
-    -- Whether a run agrees with the log depends only on the data scans after the EXTEST codes.
+    -- A run agrees with the log if and only if its data scans after the EXTEST codes agree with the log.
     pub log_decides : run_passes (test_clocks (scans_by_log (board_scans board ts) log))
         (tdos env (test_clocks (scans_by_log (board_scans board ts) log)) free chain)
         ≡ run_passes (all_clocks compared) (tdos env (all_clocks compared) left under_extest)

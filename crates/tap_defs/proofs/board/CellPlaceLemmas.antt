@@ -78,7 +78,8 @@ module _ {A : Type 0} (f : ℕ → RawDevice → ℕ → A) (z : A) where
       (slice_get_within (joined (laid (suc k) ps)) at (f (suc k + n) device cell) ih)
       ∙ ih ∙ ap (λ (m : ℕ). Some (f m device cell)) moved
 
-  -- What position `i` belongs to: a cell of a described part, or a part without a description.
+  -- Position `i` belongs to a cell of a described part or to a part without a description, and `a` is the
+  -- value there.
   pub data Site (k : ℕ) (ps : List Part) (i : ℕ) (a : A) : Type 0 where
     cell_site : (n : ℕ) (p : Part) (device : RawDevice) (cell : ℕ) → slice_get ps n ≡ Some p
         → p.kind ≡ Described device → cell < device.boundary →

@@ -75,9 +75,10 @@ pub record Sees (board : RawBoard) (pass : List Ctl) (n d : ℕ) : Type 0 where
   pub rules : NetRules board n net
   pub observing : observing_driver board (holds pass) net ≡ Some d
 
--- The properties of passes that make a test detect faults. Each boundary cell of a device has at most one reading entry
--- (`AllRead`). The passes are safe. They observe every covered net, tested driver, tested receiver and pair of paired
--- nets. The code of each covered net has a 0 bit and a 1 bit, and the codes of paired nets differ.
+-- The conditions under which a test of these passes detects faults. In each device, a boundary cell has at
+-- most one reading entry, and each entry belongs to a boundary cell (`AllRead`). The passes are safe. They
+-- observe every covered net, tested driver, tested receiver and pair of paired nets. The code of each covered
+-- net has a 0 bit and a 1 bit, and the codes of paired nets differ.
 pub record IsPlan (board : RawBoard) (passes : List (List Ctl)) (width : ℕ) : Type 0 where
   pub read : AllRead board
   pub safe : (x : ℕ) (pass : List Ctl) → slice_get passes x ≡ Some pass → IsSafe board (holds pass)

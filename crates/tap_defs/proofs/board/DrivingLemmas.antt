@@ -1,5 +1,5 @@
--- While a row is in the latches, the driver that the row enables drives an unguarded net to the bit of the driver's
--- cell.
+-- While a row is in the latches, the driver that the row enables drives an unguarded net to the bit of the
+-- driver's cell. If the driver's own cell controls it and has the disable value, the net is undriven.
 use Rattle.std.proofs.Common.{◌≡◌, ℕ, zero, suc, ◌+◌, ◌==◌, Bool, true, false, cond, not, ◌&&◌, List, [], ◌∷◌, Option, Some, None, refl, sym, ◌∙◌, ap, subst, arith}
 use Rattle.std.specs.Prelude.{slice_get, unwrap_or, option_map, option_and_then}
 use Rattle.std.specs.List.{list_all}
@@ -82,7 +82,8 @@ module _ (board : RawBoard) (row : TestRow) (safe : IsSafe board row.setting)
         (λ on. both_ways (enables board row.setting p) off
         (live_on board row safe rules before chain h n net i p en ep on))
 
-    -- The enabled driver is the only live driver, so it alone decides how the net is driven.
+    -- No other driver of the net is live, so the enabled driver alone decides how the net is driven. It is not live either
+    -- if its control cell is its own cell and has the disable value.
     module _ (d : ℕ) (pin : NetPin) (stands : slice_get net.pins d ≡ Some pin) (enabled : enables board row.setting pin ≡ true) where
       alone_is : feeding_from board (pin_states chain) 0 net.pins
           ≡ with_pin (live board (pin_states chain) pin) d

@@ -581,7 +581,7 @@ module _ (board : RawBoard) (rules : IsBoard board) (faults : FaultSet) (states 
       enters board first_row_scan preloaded entered scan1.currents scan1.stays scan2.frames
       scan2.is_start scan2.idle scan2.currents
 
-  -- Whether a whole test passes depends only on its data scans after the EXTEST codes.
+  -- A whole test passes if and only if its data scans after the EXTEST codes pass.
   pub whole_passes_as : (ts : List RowScan) →
       run_passes (test_clocks (board_scans board ts))
       (tdos wiring (test_clocks (board_scans board ts)) free states)

@@ -25,23 +25,26 @@ use Rattle.std.proofs.lemmas.Bool.{and_parts, both_ways, eq-eqb, false_from_ne_t
 use Rattle.tap_defs.proofs.board.InTestLemmas.{InTest, shifted_row}
 use Rattle.tap_defs.proofs.board.LiveLemmas.{IsWired, found, find_some, control_on, latch_is, extest_is, dead_if_off}
 
--- What the rules of boards say about the pin at place `i` of net `n`. Either its part is not described, or its part is
--- in the chain and this is its only place in the nets.
+-- The consequences of the rules of boards for pin `i` of net `n`. Either its part has no description. Or its
+-- part is described and in the chain, the device keeps the rules of `IsWired`, its port bit has a pin, and a
+-- search for this pin in the nets finds pin `i` of net `n`.
 pub data PinRules (board : RawBoard) (n : ℕ) (net : Net) (i : ℕ) (p : NetPin) : Type 0 where
   apart : p.at ≡ None → PinRules board n net i p
   placed : (at : PinAt) (part : Part) (device : RawDevice) → p.at ≡ Some at → slice_get board.chain at.part ≡ Some part →
       part.kind ≡ Described device → IsWired device → is_pinned board at ≡ true →
       place_of at 0 board.nets ≡ Some (record { number = n; net = net; place = i }) → PinRules board n net i p
 
--- What the rules of boards say about net `n`: its place in the list of nets, its pins, and its pull. A pin is on one
--- net only. So if a pin of net `n` is on an unguarded net that is pulled to `value`, net `n` is pulled to `value`.
+-- The consequences of the rules of boards for net `n`: its index in the list of nets, its pins, and its pull.
+-- A pin is on one net only. So if a pin of net `n` is on an unguarded net that is pulled to `value`, net `n`
+-- is pulled to `value`.
 pub record NetRules (board : RawBoard) (n : ℕ) (net : Net) : Type 0 where
   pub stands : slice_get board.nets n ≡ Some net
   pub pins : (i : ℕ) (p : NetPin) → slice_get net.pins i ≡ Some p → PinRules board n net i p
   pub alone : (i : ℕ) (p : NetPin) (at : PinAt) (value : Bool) → slice_get net.pins i ≡ Some p → p.at ≡ Some at →
       SwitchesAt board at value → net.pull ≡ Some value
 
--- the pin by which a setting observes a net
+-- pin `d` of the net, the driver by which the setting observes the net: the setting enables it, and the net
+-- is unguarded
 pub record Observing (board : RawBoard) (setting : Enabling) (net : Net) (d : ℕ) : Type 0 where
   pub pin : NetPin
   pub stands : slice_get net.pins d ≡ Some pin

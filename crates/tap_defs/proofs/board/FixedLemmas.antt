@@ -1,4 +1,5 @@
--- If no open pin is on a shorted net, the bit that a compared cell captures does not depend on free bits.
+-- If no open pin is on a shorted net, the bit that a compared cell captures while a row with a safe setting is in the
+-- latches does not depend on free bits.
 use Rattle.std.proofs.Common.{◌≡◌, ◌≢◌, ◌⊎◌, inl, inr, ℕ, zero, suc, ◌+◌, ◌==◌, Bool, true, false, cond, not, ◌&&◌, List, [], ◌∷◌, Option, Some, None, refl, sym, ◌∙◌, ap, subst, arith}
 use Rattle.std.specs.Prelude.{slice_get}
 use Rattle.std.specs.List.{list_all}
@@ -110,7 +111,8 @@ module _ (board : RawBoard) (row : TestRow) (safe : IsSafe board row.setting)
       ap (λ (o : Option PinAt). extest_where (pin_states chain) o) a
       ∙ extest_is board (record { now = row; before = before }) chain at.part part device h ek ed
 
-  -- while the row is in the latches, every unguarded net is ruled and has at most one live driver
+  -- While the row is in the latches, every unguarded net has at most one live driver and is ruled: every described part
+  -- with a pin on the net has the instruction EXTEST.
   pub decided : (n : ℕ) (net : Net) → slice_get board.nets n ≡ Some net → guarded board net ≡ false →
       is_decided (feeding board (pin_states chain) net) ≡ true
   decided n net en unguarded =

@@ -32,7 +32,7 @@ use Rattle.tap_defs.proofs.board.InTestLemmas.{in_test, InTest, shifted_row}
 use Rattle.tap_defs.proofs.chain.ScanLemmas.{filled_at}
 use Rattle.tap_defs.proofs.board.WrongLemmas.{bits_at}
 
--- what the rules of devices say about control cells
+-- the rules of devices that these proofs need: about control cells, driving entries and the numbers of cells
 pub record IsWired (device : RawDevice) : Type 0 where
   pub below : (i : ℕ) (e : Cell) (control : Control) → slice_get device.cells i ≡ Some e → e.ctl ≡ Some control →
       control.cell < device.boundary

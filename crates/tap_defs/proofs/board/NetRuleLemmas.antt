@@ -151,7 +151,7 @@ module _ (device : RawDevice) (rules : IsDevice device) where
     num_below = num_below;
   }
 
--- The search for a pin that occurs only once in the nets finds its place.
+-- The following lemmas show that the search for a pin that occurs only once in the nets finds this pin.
 self_at : (at : PinAt) → is_at at (Some at) ≡ true
 self_at at = ap (λ (b : Bool). b && (at.bit == at.bit)) (eq-eqb at.part at.part refl) ∙ eq-eqb at.bit at.bit refl
 

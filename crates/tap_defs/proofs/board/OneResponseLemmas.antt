@@ -1,4 +1,4 @@
--- If no open pin is on a shorted net, the compared bits of a row are the same for all free bits.
+-- If no open pin is on a shorted net, the compared bits of a row with a safe setting are the same for all free bits.
 use Rattle.std.proofs.Common.{◌≡◌, ◌≢◌, ℕ, zero, suc, ◌+◌, ◌==◌, Bool, true, false, cond, not, ◌&&◌, List, [], ◌∷◌, ◌++◌, length, map, Option, Some, None, refl, sym, ◌∙◌, ap, subst, arith}
 use Rattle.std.specs.Prelude.{slice_get, unwrap_or, option_map}
 use Rattle.std.proofs.lemmas.Bool.{both_ways, eq-eqb}
@@ -233,7 +233,7 @@ row_agrees board t safe rules earlier chain h faults is_set no_open choice other
         ((choice.parts k).cells c) ((other.parts k).cells c) choice.shorts other.shorts
         (reading_entry device c))))
 
--- the state of a part that holds its bits of the row in its latches
+-- A state of a part with the part's bits of the row in its latches. A part without a description has no latches.
 abbrev pub holding : RawBoard → TestRow → ℕ → PartKind → PartState
 holding board row k (Described device) = record {
   tap = RunTestIdle;

@@ -40,8 +40,8 @@ all_cells (suc n) f g q =
     ap (λ (b : Bool). b && scan_passes (filled n (λ k. f (suc k))) (filled n (λ k. g (suc k)))) (q 0 (omega arith))
     ∙ all_cells n (λ k. f (suc k)) (λ k. g (suc k)) (λ c h. q (suc c) (omega arith))
 
--- `p` is the place of the pin at port bit `at` in these nets, the first of which has number `m`. A search for the pin
--- returned this place.
+-- `p` is a place of the pin at port bit `at` in `nets`: the number of a net, the net, and the index of the
+-- pin in the net. The first net of `nets` has number `m`.
 pub record Stands (board : RawBoard) (at : PinAt) (p : Place) (m : ℕ) (nets : List Net) : Type 0 where
   pub index : ℕ
   pub number_is : p.number ≡ m + index

@@ -19,8 +19,8 @@ abbrev pub driven_bit : Option Bool → Option Bool → Bool → Bool
 driven_bit None pull v = v
 driven_bit (Some u) pull v = unwrap_or pull u
 
--- the bit that a compared cell captures: the constant of its own pin if that is open, else that of its net if it is
--- stuck, else the bit that the net's driver gives
+-- The bit that a compared cell captures from net `n`: the constant of the cell's pin if this pin is open, else the
+-- constant of the net if the net is stuck, else the net's `driven_bit`.
 abbrev pub response : FaultSet → ℕ → ℕ → ℕ → Option Bool → Bool → Bool
 response faults n driver place pull v =
     unwrap_or (faults.opened n place)

@@ -228,7 +228,7 @@ module _ (board : RawBoard) (rules : IsBoard board) (faults : FaultSet) (scans :
       (row_captured board faults scan.before some_choice) (captures_all scan some_choice)
       (captured_rows log h x scan logged some_choice e f) (captured_rows other k x scan second some_choice e g)
 
-  -- If no open pin is on a shorted net, the faults explain some log.
+  -- If no open pin is on a shorted net and every compared row has a safe setting, the faults explain some log.
   module _ (is_set : IsFaultSet board faults) (no_open : NoOpenShorted faults)
       (safe : (x : ℕ) (scan : RowScan) → slice_get (compared_scans board scans) x ≡ Some scan
       → IsSafe board scan.before.setting) where
@@ -295,7 +295,8 @@ kept_each {A} test P (y ∷ xs) h j x e = by_test (kept_each test P xs (λ i. h 
     by_test ih true q (suc k) f = ih k x f
     by_test ih false q k f = ih k x f
 
--- Each scan of a test compares the quiet row or a row with a safe setting.
+-- If the rows of all passes have safe settings, each scan of the test compares the quiet row or a row with a safe
+-- setting.
 module _ (board : RawBoard) (rows : List Ctl → ℕ → TestRow) (width : ℕ) where
   abbrev Before : RowScan → Type 0
   Before t = (t.before ≡ quiet_row) ⊎ IsSafe board t.before.setting

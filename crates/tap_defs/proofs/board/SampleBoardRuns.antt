@@ -22,7 +22,7 @@ use Rattle.tap_defs.proofs.chain.SampleTexts.{on, off, read, sdr, two_nets_scans
 use Rattle.tap_defs.proofs.chain.SampleRun.{choices}
 use Rattle.tap_defs.proofs.board.SampleBoards.{drv, rcv, pin, net, board, wires}
 
--- a state of the board's chain: the parts are in different TAP states
+-- a state of the board's chain, part by part; the two parts are in different TAP states
 abbrev driving : PartState
 driving =
     record {
@@ -114,7 +114,7 @@ short_other : explains_in_run (Short 0 1 And) (row on off ∷ row off on ∷ [])
 unfolding tdos
 short_other = refl
 
--- without its masks, the test does not detect a stuck net
+-- if it compares no bits, the test does not detect a stuck net
 masks_are_needed : FailOnBoard wires (set_of (StuckNet 0 off))
     (test_clocks (map (λ (s : Scan). record s { bits = uncompared s.bits }) two_nets_scans)) → ⊥
 unfolding tdos

@@ -108,8 +108,8 @@ net pins = pulled None pins
 abbrev pub board : List PartKind → List Net → RawBoard
 board kinds nets = record { chain = map (λ kind. record { name = codes "U"; kind = kind }) kinds; nets = nets }
 
--- Boards with two nets from a driver to a receiver: one for each edition of the driver, and one with a part without a description
--- between them.
+-- Boards with two nets from a driver to a receiver: one for each edition of the driver, and one with a part without a
+-- description between the driver and the receiver.
 abbrev pub two_wires : ℕ → List Net
 two_wires receiver = net (pin 0 0 ∷ pin receiver 0 ∷ []) ∷ net (pin 0 1 ∷ pin receiver 1 ∷ []) ∷ []
 

@@ -23,8 +23,9 @@ shows instruction latches = record { current = instruction; latches = latches }
 abbrev under_test : List Bool → PinState
 under_test latches = shows Extest latches
 
--- devices: a three-state driver, a driver that is always on, a driver that its own cell disables with a 1, and a driver
--- that a control cell disables with a 0
+-- `ts0` has a driver that a control cell disables with a 0. `drivers` is a board of four parts: a three-state driver
+-- that its control cell disables with a 1, drivers that are always on, a driver that its own cell disables with a 1, and
+-- `ts0`.
 abbrev ts0 : RawDevice
 ts0 = device (one_bit Outward) (entry 0 Output3 4 (Some (record { cell = 1; disable = false })) ∷ control 1 ∷ []) 2
 
@@ -77,8 +78,8 @@ second_drives = refl
 two_drive : fed_by [] off off Extest ≡ Contended
 two_drive = refl
 
--- If a receiver's part has another instruction, or a pin guards the net, the model does not say what drives the net. A
--- pin of an inert part changes nothing.
+-- If a receiver's part has an instruction other than EXTEST, or the net is guarded, the model does not say what drives
+-- the net. A pin of an inert part changes nothing.
 receiver_bypassed : fed_by [] off on Bypass ≡ Unruled
 receiver_bypassed = refl
 
@@ -97,7 +98,8 @@ beside_inert = refl
 on_supply : feeding bus (states_of off on Extest) (record (net (pin 0 0 ∷ pin 2 0 ∷ [])) { supply = true }) ≡ Unruled
 on_supply = refl
 
--- the given faults with one more, which is an open pin or a stuck net; and a short of the first `count` nets
+-- `opened` adds an open pin to the given faults, and `stuck` makes a net their only stuck net. `shorted` is a
+-- short of the first `count` nets.
 abbrev opened : ℕ → ℕ → Bool → FaultSet → FaultSet
 opened net place constant faults = record faults { opened = λ n i. cond ((n == net) && (i == place)) (Some constant) (faults.opened n i) }
 
@@ -118,7 +120,7 @@ pulled_bus pull more = record bus { nets = pulled pull (pin 0 0 ∷ pin 1 0 ∷ 
 abbrev bus_bit : Option Bool → FaultSet → Bool → Bool → List (Option Bool)
 bus_bit pull faults first second = net_bits on (pulled_bus pull []) faults (states_of first second Extest)
 
--- if the live driver is open, the net has its pull, else the constant of the driver
+-- if the only live driver is open, the net has its pull, or the constant of the driver if it has no pull
 open_to_pull : map (λ constant. bus_bit (Some off) (opened 0 0 constant no_faults) off on)
     (off ∷ on ∷ []) ≡ (Some off ∷ []) ∷ (Some off ∷ []) ∷ []
 open_to_pull = refl
@@ -197,7 +199,8 @@ driven_and_held = refl
 held_and_driven : pair (Some on) None None (Some off) ≡ read off off off off
 held_and_driven = refl
 
--- If neither net is driven, their pulls are combined in the same way. If only one net has a pull, both nets have that bit.
+-- If neither net is driven, their pulls are combined in the same way. If only one net has a pull, both nets have
+-- the bit of this pull.
 pulls_differ : pair (Some on) (Some off) None None ≡ read off on on off
 pulls_differ = refl
 
@@ -207,7 +210,7 @@ other_pulls = refl
 one_pull : pair None (Some on) None None ≡ read on on on on
 one_pull = refl
 
--- without pulls the bit is free, and it is the same for both nets
+-- if neither net is driven or has a pull, the bit of the short is free, and both nets have this bit
 nothing_decides : map (λ bit. pair_by bit None None None None) (off ∷ on ∷ []) ≡ read off off off off ∷ read on on on on ∷ []
 nothing_decides = refl
 

@@ -44,7 +44,8 @@ keeper = device
     ∷ kept 6 Input (Some 6) One None ∷ kept 7 Output3 (Some 7) Any (by 8)
     ∷ kept 8 ControlRole None One None ∷ kept 9 Output2 (Some 8) One None ∷ kept 10 Output2 (Some 9) One None ∷ []) 11
 
--- Pin 1 is on one unguarded net, and pins 2 and 3 are on another. Pin 4 is on a net with a dark pin, and pin 5 is on no net.
+-- Pin 1 is on one unguarded net, and pins 2 and 3 are on another. Pin 4 is on a net with a dark pin (a pin
+-- that may drive the net although no setting controls it), and pin 5 is on no net.
 abbrev pub keeping : RawBoard
 keeping = board (Described keeper ∷ []) (net (pin 0 0 ∷ []) ∷ net (pin 0 1 ∷ pin 0 2 ∷ []) ∷ net (pin 0 4 ∷ foreign ∷ []) ∷ [])
 
@@ -63,7 +64,7 @@ safe_bits : map (safe_bit keeper) cells ≡
 safe_bits = refl
 
 -- The visible state in which the latch of `cell` has the opposite of the cell's safe value. Every other latch has the
--- safe value of its cell.
+-- safe value of its cell, with X as 0.
 abbrev but : ℕ → List PinState
 but cell = record {
   current = Extest;
@@ -124,7 +125,8 @@ half_unsafe : IsSafelySet wire half_in_test → ⊥
 half_unsafe (inl none) = let z : true ≡ false = none 0 inner refl in cc z
 half_unsafe (inr all) = let z : false ≡ true = all.0 1 rcv1 refl in cc z
 
--- a board with a controlled driver on a dark net, which something that no setting controls may drive
+-- a board with a controlled driver on a net with a dark pin, which may drive the net although no setting
+-- controls it
 abbrev dark : RawBoard
 dark = board (Described ts ∷ Described rcv1 ∷ []) (net (pin 0 0 ∷ pin 1 0 ∷ foreign ∷ []) ∷ [])
 
@@ -135,7 +137,7 @@ dark_unsafe : IsSafelySet dark dark_on → ⊥
 dark_unsafe (inl none) = let z : true ≡ false = none 0 ts refl in cc z
 dark_unsafe (inr all) = let z : true ≡ false = all.1.free 0 _ 0 (pin 0 0) (record { part = 0; cell = 1 }) refl refl refl refl in cc z
 
--- a board with a one-sided driver that drives a net without a pull
+-- a board on which a one-sided driver, which drives only 0, is on a net without a pull
 abbrev unpulled : RawBoard
 unpulled = board (Described od ∷ Described rcv1 ∷ []) (net (pin 0 0 ∷ pin 1 0 ∷ []) ∷ [])
 
@@ -192,7 +194,8 @@ all_in_extest quiet =
     let moments = (quiet no_faults (two_parts inner) choices (no_set wire) wire_start).1 in
     half_unsafe (moment_at wire (after_reset wire inner one_left) (later_moments wire inner one_left) moments 27 half_in_test refl).0
 
--- a test that breaks condition (a) in the update of its fourth scan, because it enables a driver on a dark net
+-- a test that breaks condition (a) in the update of its fourth scan, because it enables a driver on the dark
+-- pin's net
 abbrev dark_driven : List Clock
 dark_driven = test_clocks (take 3 (svf_scans dark) ++ sdr (sent off ∷ sent off ∷ sent off ∷ []) ∷ [])
 

@@ -63,11 +63,14 @@ captures board log single bit =
     let scans : List RowScan = svf_row_scans board in
     captures_pass board (set_of single) (free bit) quiet_row scans (scans_by_log (map (scan_of_row board) scans) log)
 
--- the single faults that explain a log, in the order of `singles`, computed from the bits that the cells capture
+-- the single faults that explain a log, in the order of `singles`, computed from the bits that the cells capture if all
+-- free bits are 0 and if all are 1
 abbrev explaining : RawBoard → List (List Bool) → List Single
 explaining board log = filter (λ single. captures board log single off && captures board log single on) (singles board)
 
--- the single faults that explain a log, found by comparing each compared cell with the bit that `single_bit` gives
+-- True if a cell is not compared, or if the log has in this cell the bit that `single_bit` gives for the fault. The next
+-- three definitions extend this to the cells of a part, to all rows, and to the list of the single faults that explain a
+-- log.
 abbrev agrees : RawBoard → Single → TestRow → Bool → Option Place → Option Bool → Bool
 agrees board single row logged place None = true
 agrees board single row logged None (Some expected) = false
@@ -143,8 +146,8 @@ ignored_is : explaining two_nets ((off ∷ off ∷ on ∷ on ∷ []) ∷ (off �
     ≡ StuckNet 0 off ∷ open_pin 0 0 off ∷ open_pin 0 1 off ∷ []
 ignored_is = refl
 
--- The shorts that explain a log in which both nets have the same bit in each row. This bit is the And or the Or of the
--- two nets' bits, the first net's bit, or the second net's bit.
+-- In each of these four logs, both nets have the same bit in each row: the And of their bits, the Or of their bits, the
+-- bit of the first net, or the bit of the second net. Only the short of this kind explains the log.
 and_is : explaining two_nets (row off off ∷ row off off ∷ []) ≡ Short 0 1 And ∷ []
 and_is = refl
 
@@ -182,7 +185,8 @@ explained = record {
       (λ choice. refl, (λ choice. refl, (λ choice. refl, tt)));
 }
 
--- the expected log, and a log that differs from it in a bit that is not compared
+-- A log that differs from the expected log only in bits that are not compared is expected, too. A log that differs from
+-- it in a compared bit is not.
 is_expected : IsExpected two_nets (svf_row_scans two_nets) ((on ∷ off ∷ on ∷ off ∷ []) ∷ (off ∷ on ∷ off ∷ on ∷ []) ∷ [])
 is_expected = record {
   shape =
@@ -197,8 +201,8 @@ is_expected = record {
 is_unexpected : IsExpected two_nets (svf_row_scans two_nets) (row on off ∷ row on on ∷ []) → ⊥
 is_unexpected h = both_ways _ refl h.bits
 
--- Logs that do not have the shape of a log of this test: with a row too few, a row too many, or a row that is too
--- short. No fault explains them, and they are not expected.
+-- Logs that do not have the shape of a log of this test: with too few rows, with too many rows, or with a row that is
+-- too short. No fault explains them, and they are not expected.
 abbrev NoLog : List (List Bool) → Type 0
 NoLog log = HasShape two_nets (svf_row_scans two_nets) log → ⊥
 

@@ -21,15 +21,16 @@ apart first second = board (Described ts ∷ Described ts ∷ Described rcv ∷ 
 abbrev plain : RawBoard
 plain = apart None None
 
--- a board with both drivers on one net that is pulled up, and a board with one driver on a dark net
+-- a board with both drivers on one net that is pulled up, and a board with one driver on a net with a dark
+-- pin, that is, a pin that may drive the net although no setting controls it
 abbrev shared : RawBoard
 shared = board (Described ts ∷ Described ts ∷ Described rcv ∷ []) (pulled (Some on) (pin 0 0 ∷ pin 1 0 ∷ pin 2 0 ∷ []) ∷ [])
 
 abbrev dark : RawBoard
 dark = board (Described ts ∷ Described ts ∷ Described rcv ∷ []) (pulled (Some on) (pin 0 0 ∷ foreign ∷ pin 2 0 ∷ []) ∷ [])
 
--- the visible states of a driver that drives this bit, and of a driver that is off because its control has the disable
--- value
+-- the visible states of a part whose driver drives this bit, and of a part whose driver is off because its control cell
+-- has the disable value
 abbrev drives : Bool → PinState
 drives bit = record { current = Extest; latches = bit ∷ off ∷ [] }
 

@@ -29,7 +29,9 @@ unknown = test_logic (WithoutDescription 2)
 abbrev free : Bool → FreeBits
 free bit = record { ir = λ k. bit; cells = λ k. bit; latches = λ k. bit; tdo = bit; other = bit }
 
--- A part in this TAP state with this instruction. Each register has 1 nearest TDO and 0 above it, and the latches have 0 and 1.
+-- A part in this TAP state with this instruction. The instruction register and the boundary register have 1
+-- nearest TDO and 0 above it. The bypass register has 1, there is no identification register, and the latches
+-- have 0 and 1.
 abbrev part : TapState → Instruction → PartState
 part tap instruction = record {
   tap = tap;
@@ -41,7 +43,8 @@ part tap instruction = record {
   latches = off ∷ on ∷ [];
 }
 
--- the part after a cycle with this TMS and TDI; its pins give the boundary cells 0 and 1
+-- the part after a cycle with this TMS and TDI; its pins give the boundary cells 0 and 1, and each free bit
+-- is `bit`
 abbrev after : TestLogic → Bool → Bool → Bool → PartState → PartState
 after logic bit tms tdi s = part_after logic (off ∷ on ∷ []) (free bit) tms tdi s
 
@@ -59,13 +62,14 @@ reset_identified = refl
 reset_unknown : map (reset_to unknown) (off ∷ on ∷ []) ≡ Bypass ∷ Other ∷ []
 reset_unknown = refl
 
--- in Test-Logic-Reset the latches become any bits and the instruction becomes BYPASS; nothing else changes
+-- in a part without IDCODE that stays in Test-Logic-Reset, the latches become any bits and the instruction becomes
+-- BYPASS; nothing else changes
 reset_bits : map (λ bit. after plain bit true off (part TestLogicReset Sample)) (off ∷ on ∷ []) ≡
     record (part TestLogicReset Bypass) { latches = off ∷ off ∷ [] } ∷ record (part TestLogicReset Bypass) { latches = on ∷ on ∷ [] } ∷ []
 reset_bits = refl
 
--- The instructions that codes mean. A code of ones means BYPASS, the codes of the description mean EXTEST and SAMPLE/PRELOAD, and any other
--- code means another instruction.
+-- The instructions that codes mean. A code of ones means BYPASS. In a described part, the codes of the description mean
+-- EXTEST and SAMPLE/PRELOAD. Any other code means an instruction outside the model (`Other`).
 abbrev codes : List (List Bool)
 codes = (on ∷ on ∷ []) ∷ (off ∷ off ∷ []) ∷ (off ∷ on ∷ []) ∷ (on ∷ off ∷ []) ∷ []
 
@@ -94,7 +98,8 @@ shift_ir = refl
 shift_ir_tdo : part_tdo (free on) on (four_bits ShiftIR) ≡ off
 shift_ir_tdo = refl
 
--- Capture-DR loads the pins' bits under EXTEST, free bits under SAMPLE, and 0 under BYPASS; under another instruction it loads nothing
+-- Capture-DR loads the pins' bits under EXTEST, free bits under SAMPLE, and 0 under BYPASS. Under an instruction outside
+-- the model (`Other`) it loads nothing.
 abbrev captured : Bool → Instruction → PartState
 captured bit instruction = after plain bit false on (part CaptureDR instruction)
 
@@ -111,7 +116,8 @@ capture_bypass = refl
 capture_other : captured on Other ≡ part ShiftDR Other
 capture_other = refl
 
--- Shift-DR shifts the boundary bits or the bypass bit. Under another instruction it shifts nothing that the model knows, and TDO is free.
+-- Shift-DR shifts the boundary bits under EXTEST and SAMPLE, and the bypass bit under BYPASS. Under an instruction
+-- outside the model (`Other`) it shifts no register of the model, and TDO is free.
 abbrev shifted : Instruction → PartState
 shifted instruction = after plain on false on (part ShiftDR instruction)
 
@@ -136,8 +142,8 @@ shift_tdos = refl
 other_tdo : shift_tdo on Other ≡ on
 other_tdo = refl
 
--- In Update-DR the latches take the boundary bits under EXTEST and SAMPLE, and are unchanged under BYPASS. Under another instruction they
--- become any bits.
+-- In Update-DR the latches take the boundary bits under EXTEST and SAMPLE, and are unchanged under BYPASS. Under an
+-- instruction outside the model (`Other`) they become any bits.
 abbrev updated : Bool → Instruction → PartState
 updated bit instruction = after plain bit true on (part Exit1DR instruction)
 
@@ -154,7 +160,8 @@ update_other : map (λ bit. updated bit Other) (off ∷ on ∷ []) ≡
     record (part UpdateDR Other) { latches = off ∷ off ∷ [] } ∷ record (part UpdateDR Other) { latches = on ∷ on ∷ [] } ∷ []
 update_other = refl
 
--- all other states change only the TAP state, and TDO is a free bit in them
+-- In all other states, a cycle with TMS 0 changes only the TAP state. TDO is a free bit in these states, in
+-- Test-Logic-Reset, and in the capture states.
 abbrev calm : List TapState
 calm = RunTestIdle ∷ SelectDR ∷ Exit1DR ∷ PauseDR ∷ Exit2DR ∷ UpdateDR ∷ SelectIR ∷ Exit1IR ∷ PauseIR ∷ Exit2IR ∷ UpdateIR ∷ []
 

@@ -45,7 +45,8 @@ observer = device (one_bit Inward) (entry 0 ObserveOnly 4 None ∷ []) 1
 abbrev clocked : RawDevice
 clocked = device (one_bit Inward) (entry 0 Clock 4 None ∷ []) 1
 
--- A board. Net 0 is dark, and nets 1 and 2 are observed. The only receiver on net 3 is the pin that drives it.
+-- A board. Net 0 has a dark pin, which may drive it although no setting controls the pin. Nets 1 and 2 are
+-- observed. The only receiver on net 3 is the pin that drives it.
 abbrev mixed : RawBoard
 mixed = board
     (Described bi ∷ Described ts ∷ Described ts0 ∷ Described rcv ∷ Described observer ∷ Described
@@ -75,15 +76,16 @@ net_codes = refl
 observed : observed_count mixed passes ≡ 2
 observed = refl
 
--- in the quiet row, a cell that controls a driver has the disable value, and any other cell has its safe value, with X as 0
+-- The bits of the cells in `list` under a setting, if they carry no net's bit. Under the quiet row's setting, a cell that
+-- controls a driver with a pin has the disable value, and any other cell has its safe value, with X as 0.
 abbrev held : RawBoard → Enabling → ℕ → RawDevice → List ℕ → List Bool
 held b setting part d list = map (steady_bit b setting part d) list
 
 kept_quiet : held keeping (set []) 0 keeper cells ≡ on ∷ on ∷ off ∷ on ∷ on ∷ on ∷ on ∷ off ∷ on ∷ on ∷ on ∷ []
 kept_quiet = refl
 
--- A setting changes only cells that control drivers. Cell 8 controls the driver of a port without a pin, so it keeps
--- its safe value.
+-- A setting changes only cells that control drivers with pins. Cell 8 controls only the driver of a port without a pin,
+-- and cell 3 controls nothing, so both keep their safe values.
 kept_set : held keeping (set (c 0 5 ∷ c 0 8 ∷ c 0 3 ∷ [])) 0 keeper cells ≡ on ∷ on ∷ off ∷ on ∷ on ∷ off ∷ on ∷ off ∷ on ∷ on ∷ on ∷ []
 kept_set = refl
 
@@ -91,7 +93,7 @@ kept_set = refl
 disabled_at_0 : map (λ controls. steady_bit mixed (set controls) 2 ts0 1) ([] ∷ (c 2 1 ∷ []) ∷ []) ≡ off ∷ on ∷ []
 disabled_at_0 = refl
 
--- rows 0 and 1 of a pass, in which net 1 has code 1 and net 2 has code 2
+-- row `j` of a pass; net 1 has code 1, and net 2 has code 2
 abbrev row : List Ctl → ℕ → TestRow
 row pass j = code_row mixed passes pass j
 
@@ -108,8 +110,8 @@ driver_of_1 = refl
 driver_of_2 : rows_of (c 1 1 ∷ c 2 1 ∷ []) 2 ts0 ≡ (off ∷ on ∷ []) ∷ (on ∷ on ∷ []) ∷ []
 driver_of_2 = refl
 
--- A driver's cell has the values of the quiet row if the driver is not enabled, if its net is not observed, or if its
--- net is dark.
+-- A driver's cell has the bit of the quiet row if the driver is not enabled, if its net is not observed, or
+-- if its net has a dark pin.
 other_driver : rows_of (c 1 1 ∷ c 2 1 ∷ []) 0 bi ≡ (off ∷ on ∷ []) ∷ (off ∷ on ∷ []) ∷ []
 other_driver = refl
 

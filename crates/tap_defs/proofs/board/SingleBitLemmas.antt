@@ -43,7 +43,8 @@ use Rattle.tap_defs.proofs.board.DrivingLemmas.{feeding_is}
 use Rattle.tap_defs.proofs.board.SingleLemmas.{single_observable, single_no_open_shorted}
 use Rattle.tap_defs.proofs.board.CellPlaceLemmas.{captured_cell}
 
--- the entry by which a compared cell reads the pin at a place
+-- In this row the cell is compared with the bit `v`: `entry`, its reading entry, reads the pin at `place`, the row
+-- observes the net of this pin by a driver on another pin, and the net carries `v`.
 pub record ReadsPlace (board : RawBoard) (row : TestRow) (part : ℕ) (device : RawDevice) (cell : ℕ)
     (place : Place) (v : Bool) : Type 0 where
   pub entry : Cell
@@ -184,7 +185,7 @@ module _ (a b : ℕ) (less : a < b) (kind : Kind) (one two : Net) where
       step n net nets false (neither n (λ q. omega (arith, q, z)) (λ q. omega (arith, q, w)))
       ∙ two_after (suc n) i j nets e (omega (arith, z)) f (omega (arith, w))
 
-  -- A short of one net has the bit of this net. The bits of two nets are combined according to the kind of their short.
+  -- A single bit is combined into itself. The bits of both nets are combined according to the kind of their short.
   alone : (k : Kind) (c : ℕ) (u : Bool) → combined (short_kind a b k) ((c, u) ∷ []) ≡ u
   alone And c u = and-true u
   alone Or c u = or-false u
@@ -212,7 +213,8 @@ module _ (a b : ℕ) (less : a < b) (kind : Kind) (one two : Net) where
       (all_bits ((a, u) ∷ (b, w) ∷ []))) (ne_eqb a b (λ e. omega (arith, e, less)))
       ∙ ap (λ (t : Bool). unwrap_or (cond t (Some w) None) (all_bits ((a, u) ∷ (b, w) ∷ []))) (eq-eqb b b refl)
 
-  -- the bit of a short of two nets, at least one of which is driven or pulled
+  -- the bit of a short of two ruled nets that each have at most one live driver, and of which at least one is driven or
+  -- pulled
   short_is : (k : Kind) (x y : Feeding) (p q : Option Bool) (v free : Bool) (d : ℕ)
       → is_decided x ≡ true → is_decided y ≡ true → Carries d p v x ⊎ Carries d q v y →
       first_combined (short_kind a b k)

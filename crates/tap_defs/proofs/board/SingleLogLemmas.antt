@@ -121,7 +121,7 @@ tdo_bits-joined (b ∷ bs) =
     map-append (λ (x : ScanBit). unwrap_or x.expect false) (joined bs) b
     ∙ ap (λ (l : List Bool). l ++ tdo_bits b) (tdo_bits-joined bs)
 
--- each row of an expected log passes the scan to which it belongs
+-- in an expected log, each row has the expected bits wherever its scan compares a bit
 module _ (board : RawBoard) where
   abbrev statement : RowScan → Scan
   statement t = scan_of_row board t

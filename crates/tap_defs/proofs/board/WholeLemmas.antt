@@ -1,4 +1,5 @@
--- A whole test passes on the board without faults, and fails under the fault sets that it detects.
+-- A whole test whose rows have safe settings passes on the board without faults. If its passes form a plan
+-- (`IsPlan`), it fails under every nonempty observable fault set.
 use Rattle.std.specs.Prelude.{slice_get}
 use Rattle.std.proofs.Common.{◌≡◌, Bool, ◌∷◌, zero, List, refl, ℕ, true, [], suc, ◌++◌, Some, ◌∙◌, append_assoc, ap, sym, subst}
 use Rattle.board_defs.specs.declared.board.Ctl.{Ctl}
@@ -31,7 +32,7 @@ clocks-append board (x ∷ xs) ys =
     let first : List Clock = sdr_clocks (joined (row_bits board x)) in
     ap (λ (r : List Clock). first ++ r) (clocks-append board xs ys) ∙ sym (append_assoc first (row_clocks board xs) (row_clocks board ys))
 
--- every bit that is compared with this row is the expected one, while the row is in the latches
+-- while this row is in the latches of a board without faults, every bit that a scan compares is the expected one
 abbrev pub IsGood : RawBoard → TestRow → Type 0
 IsGood board row =
     (now before : TestRow) (free : Choice) (chain : List ChainPart)

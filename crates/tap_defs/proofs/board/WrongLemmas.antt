@@ -164,8 +164,8 @@ IsDead board row at =
     → InTest board (shifted_row board (record { now = row; before = before })) chain
     → live_where board (pin_states chain) (Some at) ≡ false
 
--- A compared cell that captures the constant `u` makes a scan wrong if the scan compares a row in which the cell's net
--- carries the opposite of `u`.
+-- A scan is wrong if it compares a row in which a net carries the opposite of `u`, while a compared cell of
+-- this net captures `u` in every run. The cell's pin must not be a live driver.
 pub wrong_if_constant : (board : RawBoard) (faults : FaultSet) (row before now : TestRow) (n : ℕ)
     (net : Net) (c : Compared board row.setting n net) (u : Bool) →
     IsDead board row (record { part = c.k; bit = c.bit }) →

@@ -30,8 +30,8 @@ run_logics wiring cs choices ps =
     run_keeps (λ (qs : List ChainPart). logics qs ≡ logics ps) wiring
     (λ c choice qs e. chain_logics qs (bits_at_pins wiring choice qs) choice.parts c.tms (clock_tdi c choice) ∙ e) cs choices ps refl
 
--- A clock keeps the lengths of the instruction registers, because both of its actions keep them: that of the old state
--- and that of the new state.
+-- A clock does not change the lengths of the instruction registers. It performs the action of the old TAP state and then
+-- that of the new TAP state, and neither action changes them.
 old_ir : (t : TapState) (i : Instruction) (logic : TestLogic) (pins : List Bool) (free : FreeBits) (tdi : Bool) (s : PartState) →
     length (old_state_acts t i logic pins free tdi s).ir ≡ length s.ir
 old_ir CaptureIR i logic pins free tdi s = length-captured_ir s.ir free.ir
@@ -130,7 +130,7 @@ run_leads wiring u (c ∷ cs) choices ps h =
     run_leads wiring u cs (later choices) (clock_after wiring c (choices 0) ps)
     (chain_leads u c cs ps (bits_at_pins wiring (choices 0) ps) (choices 0).parts (clock_tdi c (choices 0)) h)
 
--- five clocks with TMS 1 lead from every state to Test-Logic-Reset, and one with TMS 0 from there to Run-Test/Idle
+-- five clocks with TMS 1 lead from every state to Test-Logic-Reset
 resets : (t : TapState) → way t reset_clocks ≡ TestLogicReset
 resets TestLogicReset = refl
 resets RunTestIdle = refl
@@ -157,10 +157,11 @@ all_idle : (ps : List ChainPart) → AllLead RunTestIdle head_clocks ps
 all_idle [] = tt
 all_idle (p ∷ ps) = (ap (λ (t : TapState). next_state t false) (resets p.state.tap), all_idle ps)
 
--- Each part is in Test-Logic-Reset after the fifth clock of the head, and in Run-Test/Idle after the sixth.
+-- After the first five clocks of the head, each part is in Test-Logic-Reset.
 pub run_resets : (wiring : Wiring) (choices : Choices) (ps : List ChainPart) → AllIn TestLogicReset (run wiring reset_clocks choices ps)
 run_resets wiring choices ps = run_leads wiring TestLogicReset reset_clocks choices ps (all_reset ps)
 
+-- After all six clocks of the head, each part is in Run-Test/Idle.
 pub head_idles : (wiring : Wiring) (choices : Choices) (ps : List ChainPart) → AllIn RunTestIdle (run wiring head_clocks choices ps)
 head_idles wiring choices ps = run_leads wiring RunTestIdle head_clocks choices ps (all_idle ps)
 

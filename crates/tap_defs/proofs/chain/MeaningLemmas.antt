@@ -162,7 +162,7 @@ scans_bare (s ∷ scans) h =
 text_bare : (scans : List Scan) → AllSized scans → list_all is_bare (head_text ++ (scan_texts scans ++ tail_text)) ≡ true
 text_bare scans h = all_append is_bare (scan_texts scans) tail_text (scans_bare scans h) refl
 
--- the statements of the head, of the scans and of the tail
+-- the statements of the head, and those of the tail
 abbrev head_statements : List Statement
 head_statements = TrstOff ∷ EndIrIdle ∷ EndDrIdle ∷ StateReset ∷ StateIdle ∷ []
 

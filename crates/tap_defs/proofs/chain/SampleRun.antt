@@ -12,7 +12,7 @@ use Rattle.tap_defs.proofs.chain.SampleTexts.{off, on, two_parts_scans}
 abbrev pub plain_logic : ℕ → TestLogic
 plain_logic n = record { ir_length = n; boundary_length = 0; extest = None; preload = None; at_reset = None; idcode = [] }
 
--- Free bits are 1 in registers and 0 at TDO. A reset selects an instruction other than BYPASS.
+-- Free bits are 1 in registers and latches, and 0 at TDO. A reset selects an instruction other than BYPASS.
 abbrev pub free_bits : FreeBits
 free_bits = record { ir = λ k. on; cells = λ k. on; latches = λ k. on; tdo = off; other = on }
 
@@ -57,7 +57,7 @@ two_start = record {
 abbrev pub clocks : List Clock
 clocks = test_clocks two_parts_scans
 
--- TDO of the chain of two parts in each clock; its last part is in Shift-IR in the first clock
+-- TDO of the chain of two parts in each clock; the last part is in Shift-IR in the first clock
 pub two_shows : tdos no_wiring clocks choices two ≡
     (on ∷ off ∷ off ∷ off ∷ off ∷ off ∷ [])
     ++ (off ∷ off ∷ off ∷ off ∷ []) ++ (on ∷ off ∷ on ∷ off ∷ on ∷ on ∷ []) ++ (off ∷ off ∷ [])
@@ -70,7 +70,7 @@ pub two_passes : run_passes clocks (tdos no_wiring clocks choices two) ≡ true
 unfolding tdos
 two_passes = refl
 
--- TDO of the chain of one part in each clock; it delays the marks by only one place
+-- TDO of the chain of one part in each clock; the part delays the marks by only one clock
 pub one_shows : tdos no_wiring clocks choices one ≡
     (off ∷ off ∷ off ∷ off ∷ off ∷ off ∷ [])
     ++ (off ∷ off ∷ off ∷ off ∷ []) ++ (on ∷ off ∷ on ∷ on ∷ on ∷ on ∷ []) ++ (off ∷ off ∷ [])

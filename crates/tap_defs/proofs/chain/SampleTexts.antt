@@ -103,8 +103,8 @@ pub forty_parts_text : chain_text (replicate 40 2) ≡ sample_text (
 unfolding svf_text digits
 forty_parts_text = refl
 
--- A statement of 80 characters is in one line, and one of 81 is in several. A field of 64 digits has one line, and a longer field has
--- more.
+-- A statement of 80 characters is in one line, and one of 81 is in several. In a statement of several lines, a field of
+-- 64 digits has one line, and a longer field has more.
 abbrev pub zero_digits : ℕ → List ℕ
 zero_digits n = replicate n 48
 
@@ -135,8 +135,8 @@ pub scan_means : headed (codes "SDR 5 TDI (08) TDO (01) MASK (05);" ∷ []) ≡ 
 unfolding meaning text_statements tokens_from
 scan_means = refl
 
--- This text has a meaning, in spite of comments, blanks, line ends between digits, digits in either case, and TDO bits
--- that are not compared.
+-- The next two texts have a meaning. The first has comments, additional blanks and line ends, also between digits. The
+-- second has a lower-case digit. In both, TDO has bits that are not compared.
 pub comment_means : headed
     (codes "! a; (" ∷ codes "SDR 5 // 6" ∷ codes "TDI (0!8" ∷ codes "8) TDO (0"
     ∷ codes " 1 )MASK (05 ) ;//" ∷ []) ≡ one_scan
@@ -170,9 +170,10 @@ pub scan_unended : meaning (codes "ENDIR IDLE; STATE RESET; STATE IDLE; SDR 4 TD
 unfolding meaning text_statements tokens_from
 scan_unended = refl
 
--- Scans without a meaning: without TDI, with only one of TDO and MASK, with fields in another order, with too many or too
--- few digits, or with a 1 above the bits. A scan of no bits, a command in lower case, another command, and a statement
--- without its semicolon have no meaning either.
+-- Texts without a meaning. The scans lack TDI, have only one of TDO and MASK, have fields in another order or a field
+-- twice, have too many, too few or wrong digits, have a 1 above the bits, have the length 0, or lack a proper length. A
+-- command in lower case, another command, an empty statement, and a statement without its semicolon have no meaning
+-- either.
 pub no_meaning : list_all (λ l. is_none (headed (l ∷ []))) (
     codes "SDR 4;" ∷ codes "SDR 4 TDO (1) MASK (1);" ∷ codes "SDR 4 TDI (0) TDO (1);" ∷ codes "SDR 4 TDI (0) MASK (1);"
     ∷ codes "SDR 4 TDI (0) MASK (1) TDO (1);" ∷ codes "SDR 4 TDI (0) TDO (1) MASK (1) MASK (1);"

@@ -60,8 +60,8 @@ abbrev pub pass_scans : (ℕ → TestRow) → ℕ → ℕ → TestRow → List R
 pass_scans rows zero j before = record { now = quiet_row; before = before } ∷ []
 pass_scans rows (suc more) j before = record { now = rows j; before = before } ∷ pass_scans rows more (suc j) (rows j)
 
--- The data scans of all passes, each with `width` rows. The quiet row is in the latches before each pass, so the first scan of a pass
--- compares nothing.
+-- The data scans of all passes. The scans of a pass shift in its `width` rows and then the quiet row. The quiet row is in
+-- the latches before each pass, so the first scan of a pass compares nothing.
 abbrev pub row_scans : (List Ctl → ℕ → TestRow) → ℕ → List (List Ctl) → List RowScan
 row_scans rows width [] = []
 row_scans rows width (pass ∷ passes) = pass_scans (rows pass) width 0 quiet_row ++ row_scans rows width passes
@@ -107,8 +107,8 @@ abbrev pub row_before : (ℕ → TestRow) → ℕ → TestRow
 row_before rows zero = quiet_row
 row_before rows (suc j) = rows j
 
--- `scans` are the scans of a test, each at its place. Three scans come before the passes. Each pass has a scan for each
--- row and one for the quiet row.
+-- `scans` are the scans of a test, in this order: the preload codes, the quiet row, the EXTEST codes, and
+-- then the scans of each pass. A pass has a scan for each row and one for the quiet row.
 pub record AreTestScans (board : RawBoard) (passes : List (List Ctl)) (width : ℕ) (scans : List Scan) : Type 0 where
   pub count : length scans ≡ 3 + length passes * suc width
   pub preload : slice_get scans 0 ≡ Some (instructs (map (λ part. preload_code part.kind) board.chain))

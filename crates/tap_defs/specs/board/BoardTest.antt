@@ -1,4 +1,5 @@
--- What an SVF text must do to be harmless on a board, and to be a test of the board.
+-- The conditions under which an SVF text is harmless on a board, and those under which it is a test of the
+-- board.
 use Rattle.std.specs.Prelude.{◌≡◌, ℕ, List, Some}
 use Rattle.board_defs.specs.declared.board.RawBoard.{RawBoard}
 use Rattle.tap_defs.specs.chain.Run.{Clock}

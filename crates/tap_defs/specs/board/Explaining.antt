@@ -29,7 +29,7 @@ short_kind a b Or = OrShort
 short_kind a b First = Dominant a
 short_kind a b Second = Dominant b
 
--- The fault set of a single fault. Shorts are numbered, and the only short of this set has number 0.
+-- The fault set of a single fault. If the fault is a short, the short has number 0.
 abbrev pub set_of : Single → FaultSet
 set_of (StuckNet net value) = record no_faults { stuck = λ n. cond (n == net) (Some value) None }
 set_of (OpenPin pin value) = record no_faults { opened = λ n i. cond ((n == pin.net) && (i == pin.place)) (Some value) None }

@@ -55,7 +55,7 @@ live_where board states (Some at) = live_entry states at.part (entry_at board at
 abbrev pub live : RawBoard → List PinState → NetPin → Bool
 live board states pin = live_where board states pin.at
 
--- the bit of a driver: the update latch of its driving cell
+-- the bit of a driver: the update latch of its driving cell, or 0 if the pin has no driving cell
 abbrev pub driver_bit : RawBoard → List PinState → Option PinAt → Bool
 driver_bit board states None = false
 driver_bit board states (Some at) = unwrap_or (option_map (λ cell. latch states at.part cell.num) (entry_at board at)) false
@@ -65,20 +65,21 @@ abbrev pub extest_where : List PinState → Option PinAt → Bool
 extest_where states None = true
 extest_where states (Some at) = in_extest states at.part
 
--- A net is ruled if it is not guarded and every described part with a pin on it has the instruction Extest. The model
--- does not say what drives any other net.
+-- A net is ruled if the model says what drives it: the net is not guarded, and every described part with a
+-- pin on it has the instruction Extest. A net is guarded if it carries a supply, or has a pin of a test
+-- access port, a pin that compliance patterns name, or a dark pin.
 abbrev pub ruled : RawBoard → List PinState → Net → Bool
 ruled board states net = not (guarded board net) && list_all (λ pin. extest_where states pin.at) net.pins
 
--- What drives a net: unknown, because the net is not ruled; no driver; one live driver, with its place and its bit; or
--- several live drivers.
+-- The feeding of a net says what drives it: unknown, because the net is not ruled; no driver; one live
+-- driver, with its place (its index among the pins of the net) and its bit; or several live drivers.
 pub data Feeding : Type 0 where
   Unruled : Feeding
   Undriven : Feeding
   Driven : ℕ → Bool → Feeding
   Contended : Feeding
 
--- what drives a net after one more pin is taken into account; a pin that is not live changes nothing
+-- the feeding of a net after one more pin is taken into account; a pin that is not live changes nothing
 abbrev pub with_pin : Bool → ℕ → Bool → Feeding → Feeding
 with_pin false place bit feeding = feeding
 with_pin true place bit Undriven = Driven place bit
@@ -86,14 +87,14 @@ with_pin true place bit Unruled = Unruled
 with_pin true place bit (Driven other value) = Contended
 with_pin true place bit Contended = Contended
 
--- what drives a ruled net with these pins, the first of which has place `place`
+-- the feeding of a ruled net with these pins, the first of which has index `place` in the net
 abbrev pub feeding_from : RawBoard → List PinState → ℕ → List NetPin → Feeding
 feeding_from board states place [] = Undriven
 feeding_from board states place (pin ∷ pins) =
     with_pin (live board states pin) place (driver_bit board states pin.at)
     (feeding_from board states (suc place) pins)
 
--- what drives the net
+-- the feeding of the net
 abbrev pub feeding : RawBoard → List PinState → Net → Feeding
 feeding board states net = cond (ruled board states net) (feeding_from board states 0 net.pins) Unruled
 
@@ -146,7 +147,7 @@ OfNet A = ℕ × A
 abbrev pub all_bits : List (OfNet Bool) → Bool
 all_bits bits = list_all (λ bit. bit.1) bits
 
--- the bit of net `d`, if it is among them
+-- the bit of net `d` in the list, or None if the list has no bit of this net
 abbrev pub bit_at_net : ℕ → List (OfNet Bool) → Option Bool
 bit_at_net d [] = None
 bit_at_net d (bit ∷ bits) = cond (bit.0 == d) (Some bit.1) (bit_at_net d bits)
@@ -215,8 +216,8 @@ net_bit_by board faults states shorts n net None (Some k) = Some (short_bit boar
 net_bit_by board faults states shorts n net None None = unshorted_bit faults n net.pull (feeding board states net)
 
 -- The bit of net `n`: its constant if it is stuck, else the bit of its short if it is in one, else the bit that its driver
--- and its pull give. None means that each cell on the net captures a free bit. `shorts k` is the bit of short `k` if
--- nothing decides that bit.
+-- and its pull give. None means that each cell that reads the net captures a free bit. `shorts k` is the bit of short
+-- `k` if nothing decides that bit.
 abbrev pub net_bit : RawBoard → FaultSet → List PinState → (ℕ → Bool) → ℕ → Net → Option Bool
 net_bit board faults states shorts n net = net_bit_by board faults states shorts n net (faults.stuck n) (faults.short n)
 

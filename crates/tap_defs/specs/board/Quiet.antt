@@ -31,7 +31,7 @@ controls_driver board part cell entry =
     is_control_of cell entry.ctl && is_driving entry.role
     && unwrap_or (option_map (λ bit. is_pinned board (record { part = part; bit = bit })) entry.bit) false
 
--- true if the cell controls a driver of the device and `bit` differs from the disable value
+-- true if the cell controls a driver of the device that has a pin, and `bit` differs from the disable value
 abbrev pub set_in : RawBoard → ℕ → ℕ → Bool → Option RawDevice → Bool
 set_in board part cell bit None = false
 set_in board part cell bit (Some device) = list_any (controls_driver board part cell) device.cells && differs bit (disable_of device cell)
@@ -75,8 +75,8 @@ symbol_value Any = None
 abbrev pub safe_bit : RawDevice → ℕ → Option Bool
 safe_bit device cell = option_and_then symbol_value (safe_value device cell)
 
--- (c) Under Extest, a cell that controls no driver and drives no pin of an unguarded net has its safe value in its latch, if that value is
--- 0 or 1.
+-- (c) Under Extest, a cell that controls no driver with a pin and drives no pin of an unguarded net has its safe value
+-- in its latch, if that value is 0 or 1.
 abbrev pub KeepsSafeValues : RawBoard → List PinState → Type 0
 KeepsSafeValues board states =
     (part cell : ℕ) (device : RawDevice) (value : Bool) → device_at board part ≡ Some device

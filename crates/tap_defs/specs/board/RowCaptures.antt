@@ -54,7 +54,7 @@ row_captured board faults row choice = joined (registers (board_wiring board fau
 
 -- Each scan of the second list passes with the bits that the cells capture, whatever the free bits are. The cells
 -- capture while the row of the previous scan is in the latches. For the first scan, this is `row`. The first list gives
--- the rows that the scans shift in.
+-- the rows that the scans shift in. Items past the end of the shorter list are ignored.
 abbrev pub CapturesPass : RawBoard → FaultSet → TestRow → List RowScan → List Scan → Type 0
 CapturesPass board faults row [] scans = Unit {0}
 CapturesPass board faults row (t ∷ ts) [] = Unit {0}
@@ -66,7 +66,8 @@ abbrev pub AgreeAt : Option Bool → Bool → Bool → Type 0
 AgreeAt None x y = Unit {0}
 AgreeAt (Some expected) x y = x ≡ y
 
--- the two lists of captured bits agree wherever the scan compares a bit
+-- The two lists of captured bits agree wherever the scan compares a bit. Positions past the end of the shortest list are
+-- ignored.
 abbrev pub AgreeWhereCompared : List ScanBit → List Bool → List Bool → Type 0
 AgreeWhereCompared [] xs ys = Unit {0}
 AgreeWhereCompared (bit ∷ bits) [] ys = Unit {0}

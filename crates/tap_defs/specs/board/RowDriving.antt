@@ -1,4 +1,5 @@
--- What drives a net while a row is in the latches. It follows from the enabled driver and the bit of the driver's cell.
+-- The feeding of a net, which says what drives it, while a row is in the latches. It follows from the enabled
+-- driver and the bit of the driver's cell.
 use Rattle.std.specs.Prelude.{ℕ, ◌==◌, Bool, false, cond, ◌&&◌, Option, Some, None, slice_get}
 use Rattle.board_defs.specs.declared.device.Control.{Control}
 use Rattle.board_defs.specs.declared.device.Cell.{Cell}
@@ -39,11 +40,13 @@ abbrev pub pin_feeds : RawBoard → TestRow → ℕ → Option NetPin → Feedin
 pin_feeds board row place None = Undriven
 pin_feeds board row place (Some pin) = at_feeds board row place pin.at
 
--- how the enabled driver at this place drives the net, if there is one
+-- how the net's enabled driver, the pin at this place, drives the net; `Undriven` if no driver is enabled
 abbrev pub driver_feeds : RawBoard → TestRow → Net → Option ℕ → Feeding
 driver_feeds board row net None = Undriven
 driver_feeds board row net (Some place) = pin_feeds board row place (slice_get net.pins place)
 
--- what drives the net while the row is in the latches: nothing, or the net's enabled driver, with its place and its bit
+-- The feeding of an unguarded net while the row is in the latches: the net's enabled driver, with its place and its
+-- bit. It is `Undriven` if no driver is enabled, or if the enabled driver's own cell controls it and has the disable
+-- value.
 abbrev pub row_feeding : RawBoard → TestRow → Net → Feeding
 row_feeding board row net = driver_feeds board row net (first_enabled board row.setting 0 net.pins)

@@ -13,8 +13,9 @@ use Rattle.board_defs.specs.Settings.{Enabling, holds, enables}
 use Rattle.tap_defs.specs.board.NetBits.{Place, place_of}
 use Rattle.tap_defs.specs.board.Quiet.{controls_driver, safe_bit}
 
--- The place of the first enabled driver among these pins, the first of which has place `place`. In a safe setting, at
--- most one driver of the net is enabled. Otherwise only the first enabled driver counts.
+-- The place of the first enabled driver among these pins, the first of which has place `place`. The place of a pin is
+-- its index in its net. In a safe setting, at most one driver of the net is enabled. Otherwise only the first enabled
+-- driver counts.
 abbrev pub first_enabled : RawBoard → Enabling → ℕ → List NetPin → Option ℕ
 first_enabled board setting place [] = None
 first_enabled board setting place (pin ∷ pins) =
@@ -86,8 +87,8 @@ quiet_row = record { setting = λ c. false; carried = λ n. None }
 abbrev pub code_row : RawBoard → List (List Ctl) → List Ctl → ℕ → TestRow
 code_row board passes pass j = record { setting = holds pass; carried = λ n. Some (net_code_bit board passes j n) }
 
--- The bit of a cell that carries no net's bit. A cell that controls a driver has the disable value, or the opposite if
--- the setting contains the cell. Any other cell has its safe value, with X as 0.
+-- The bit of a cell that carries no net's bit. A cell that controls a driver with a pin has the disable value, or the
+-- opposite if the setting contains the cell. Any other cell has its safe value, with X as 0.
 abbrev pub steady_bit : RawBoard → Enabling → ℕ → RawDevice → ℕ → Bool
 steady_bit board setting part device cell =
     let off : Bool = unwrap_or (disable_of device cell) false in
@@ -150,7 +151,8 @@ abbrev pub expect_entry : RawBoard → TestRow → ℕ → Option Cell → Optio
 expect_entry board row part None = None
 expect_entry board row part (Some e) = cond (is_receiving e.role) (expect_pin board row part e.bit) None
 
--- The bit that a cell is expected to capture while the row is in the latches, or None if the cell is not compared. Every INPUT, CLOCK and
--- BIDIR cell of a receiver on an observed net is compared, except at the pin of the enabled driver.
+-- The bit that a cell is expected to capture while the row is in the latches, or None if the cell is not
+-- compared. Every INPUT, CLOCK and BIDIR cell of a receiver on an observed net is compared if the net carries
+-- a bit in the row, except at the pin of the enabled driver.
 abbrev pub expect_bit : RawBoard → TestRow → ℕ → RawDevice → ℕ → Option Bool
 expect_bit board row part device cell = expect_entry board row part (reading_entry device cell)

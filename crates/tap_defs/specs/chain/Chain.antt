@@ -21,7 +21,7 @@ chain_after (p ∷ parts) pins free tms tdi =
     record p { state = part_after p.logic (pins 0) (free 0) tms tdi p.state }
     ∷ chain_after parts (λ k. pins (suc k)) (λ k. free (suc k)) tms (part_tdo (free 0) tdi p.state)
 
--- TDO of the chain in the cycle, which is TDO of its last part
+-- TDO of the chain in the cycle, which is TDO of its last part, or TDI if the chain has no parts
 abbrev pub chain_tdo : List ChainPart → (ℕ → FreeBits) → Bool → Bool
 chain_tdo [] free tdi = tdi
 chain_tdo (p ∷ parts) free tdi = chain_tdo parts (λ k. free (suc k)) (part_tdo (free 0) tdi p.state)

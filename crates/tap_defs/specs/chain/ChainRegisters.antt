@@ -24,12 +24,12 @@ data_register s = selected_by s.current s.boundary s.bypass s.identification
 abbrev pub data_registers : List ChainPart → List (List Bool)
 data_registers parts = map (λ p. data_register p.state) parts
 
--- the bits that a part holds after Update-DR under its current instruction: its latches, its bypass bit, or its
--- identification register
+-- The bits that a part holds after Update-DR under its current instruction: its latches under EXTEST or SAMPLE, its
+-- bypass bit under BYPASS, or its identification register under IDCODE. Under Other it holds none.
 abbrev pub held_bits : PartState → List Bool
 held_bits s = selected_by s.current s.latches s.bypass s.identification
 
--- the bits that each part holds after Update-DR
+-- the bits that each part holds after Update-DR (`held_bits`)
 abbrev pub all_held : List ChainPart → List (List Bool)
 all_held parts = map (λ p. held_bits p.state) parts
 

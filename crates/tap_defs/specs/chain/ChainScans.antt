@@ -8,7 +8,8 @@ use Rattle.tap_defs.specs.chain.Text.{svf_text}
 abbrev pub marks : List Bool
 marks = true ∷ false ∷ true ∷ false ∷ false ∷ true ∷ false ∷ true ∷ []
 
--- scan bits that shift in the first list and expect the second list at TDO
+-- Scan bits that shift in the first list and expect the second list at TDO. Bits past the end of the shorter list are
+-- left out.
 abbrev pub compared_with : List Bool → List Bool → List ScanBit
 compared_with [] out = []
 compared_with (i ∷ ins) [] = []

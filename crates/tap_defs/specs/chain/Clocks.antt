@@ -8,7 +8,7 @@ use Rattle.tap_defs.specs.chain.Run.{Clock}
 abbrev pub plain : Bool → Clock
 plain tms = record { tms = tms; tdi = None; expect = None }
 
--- a clock that shifts this bit in
+-- a clock that shifts this bit in, and compares TDO if the bit is compared
 abbrev pub shift_clock : Bool → ScanBit → Clock
 shift_clock tms bit = record { tms = tms; tdi = Some bit.tdi; expect = bit.expect }
 

@@ -5,8 +5,8 @@ use Rattle.tap_defs.specs.chain.Clocks.{scan_clocks, reset_clocks, head_clocks}
 use Rattle.tap_defs.specs.chain.SvfTokens.{without_comments, tokens_from, pieces_from}
 use Rattle.tap_defs.specs.chain.SvfStatements.{Statement, TrstOff, EndIrIdle, EndDrIdle, StateReset, StateIdle, ScanOf, statements_of}
 
--- what earlier statements established: whether the controllers are in Run-Test/Idle, and whether ENDIR IDLE and ENDDR IDLE have
--- been given
+-- the state that earlier statements established: whether the controllers are in Run-Test/Idle, and whether
+-- ENDIR IDLE and ENDDR IDLE have been given
 pub record Standing : Type 0 where
   pub idle : Bool
   pub ends_ir : Bool

@@ -50,7 +50,7 @@ bits_of_fields n (tdi ∷ tdo ∷ mask ∷ []) =
     bits_of_three (field_bits_of (codes "TDI") n tdi) (field_bits_of (codes "TDO") n tdo) (field_bits_of (codes "MASK") n mask)
 bits_of_fields n _ = None
 
--- the length of a scan, which is a decimal number other than 0
+-- the length of a scan, which is a decimal number other than 0; None if the word is no such number
 abbrev pub length_word : List ℕ → Option ℕ
 length_word word = if list_all is_ascii_digit word && nat_lt 0 (digits_value 10 word) then Some (digits_value 10 word) else None
 

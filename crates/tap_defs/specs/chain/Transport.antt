@@ -68,9 +68,9 @@ pub record ScansCodes (bits : List ScanBit) (leaving staying tdo : List Bool) (b
   pub frames : map code_frame after ≡ map code_frame before
   pub idle : AllIn RunTestIdle after
 
--- A data scan from Run-Test/Idle that has some bits and is exactly as long as the selected registers together. The
--- instruction of each part selects a register of the model. All captured bits come out, and the chain then holds the bits that were
--- shifted in.
+-- Let a data scan begin in Run-Test/Idle, have at least one bit, and be exactly as long as the selected registers
+-- together. The instruction of each part must select a register of the model. Then all captured bits come out, and the
+-- chain holds the bits that were shifted in.
 abbrev pub DataTransport : Type 0
 DataTransport =
     (wiring : Wiring) (bits : List ScanBit) (choices : Choices) (parts : List ChainPart) →
@@ -81,9 +81,9 @@ DataTransport =
     (tdos wiring (sdr_clocks bits) choices parts) parts
     (run wiring (sdr_clocks bits) choices parts)
 
--- A data scan from Run-Test/Idle of any length `n` except 0. The instruction of each part selects a register of the
--- model. Let `stream` be the captured bits followed by the bits that are shifted in. Its first `n` bits come out, and the chain
--- then holds the others.
+-- Let a data scan begin in Run-Test/Idle and have any length `n` except 0. The instruction of each part must select a
+-- register of the model. Let `stream` be the captured bits followed by the bits that are shifted in. Then its first `n`
+-- bits come out, and the chain holds the others.
 abbrev pub LongDataTransport : Type 0
 LongDataTransport =
     (wiring : Wiring) (bits : List ScanBit) (choices : Choices) (parts : List ChainPart) →
@@ -93,8 +93,9 @@ LongDataTransport =
     ScansData bits captured (take (length bits) stream) (drop (length bits) stream)
     (tdos wiring (sdr_clocks bits) choices parts) parts (run wiring (sdr_clocks bits) choices parts)
 
--- An instruction scan from Run-Test/Idle, under any current instructions, that has some bits and is exactly as long as
--- the instruction registers together. All captured bits come out, and each part then has the instruction of its code.
+-- Let an instruction scan begin in Run-Test/Idle, under any current instructions, have at least one bit, and be exactly
+-- as long as the instruction registers together. Then all captured bits come out, and each part has the instruction of
+-- the code that was shifted into it.
 abbrev pub CodeTransport : Type 0
 CodeTransport =
     (wiring : Wiring) (bits : List ScanBit) (choices : Choices) (parts : List ChainPart) →
@@ -102,9 +103,9 @@ CodeTransport =
     ScansCodes bits (joined (codes_captured choices parts)) (tdi_bits bits)
     (tdos wiring (sir_clocks bits) choices parts) parts (run wiring (sir_clocks bits) choices parts)
 
--- An instruction scan from Run-Test/Idle, under any current instructions, of any length `n` except 0. Let `stream` be
--- the captured bits followed by the bits that are shifted in. Its first `n` bits come out, and the instruction
--- registers then hold the others.
+-- Let an instruction scan begin in Run-Test/Idle, under any current instructions, and have any length `n` except 0. Let
+-- `stream` be the captured bits followed by the bits that are shifted in. Then its first `n` bits come out, and the
+-- instruction registers hold the others.
 abbrev pub LongCodeTransport : Type 0
 LongCodeTransport =
     (wiring : Wiring) (bits : List ScanBit) (choices : Choices) (parts : List ChainPart) →
