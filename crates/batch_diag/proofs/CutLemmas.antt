@@ -234,7 +234,8 @@ block_here n [] later title = absurd cc
 block_here n (word ∷ words) later title =
     ap (λ b. cond b (record { id = id_of (word ∷ words); lines = up_to_title later } ∷ blocks_of later) (blocks_of later)) title
 
--- The first line of the text has number `n`, and the first line of its rest `left` has number `k`. No line before the rest is a title.
+-- The first line of the text has number `n`, and the first line of the rest `left` has number `k`. No line
+-- before the rest is a title.
 pub record Passed (text : List ℕ) (n k : ℕ) (left : List ℕ) : Type 0 where
   pub done : List ℕ
   pub lines : List (List ℕ)

@@ -236,7 +236,8 @@ titles_none m (text ∷ texts) below names =
     ∙ titles_after (m + 1) text.below texts (All-head HasRows text texts below)
     ∙ titles_none (m + 1 + length text.below) texts (All-tail HasRows text texts below) (All-tail Names text texts names)
 
--- if the first line with words is a title, the lines before the first title have no words
+-- if the first line with words is a title, or if no line has words, the lines before the first title have no
+-- words
 blank_front : (n : ℕ) (front later : List (List ℕ)) → All IsNoTitle front
     → start_fault (rows_at n (front ++ later)) ≡ None → All IsBlank front
 blank_front n [] later none start = All-nil IsBlank

@@ -40,12 +40,14 @@ names_board (word ∷ words) = is_id words
 abbrev pub is_wrong_title : NumberedLine → Bool
 is_wrong_title line = begins_block line && not (names_board line.words)
 
--- the fault of the first of these lines, if this line is not a title
+-- the fault of the first of these lines, if there is a line and the first line is not a title; otherwise
+-- `None`
 abbrev pub start_fault : List NumberedLine → Option BatchFault
 start_fault [] = None
 start_fault (line ∷ lines) = if begins_block line then None else Some (Start line.number)
 
--- the fault of the first wrong title; a title is wrong if it has no id, more than an id, or an id that breaks the word rule
+-- The fault of the first wrong title, or `None` if no title is wrong. A title is wrong if it has no id, more
+-- than one id, or an id that breaks the word rule.
 abbrev pub title_fault : List NumberedLine → Option BatchFault
 title_fault [] = None
 title_fault (line ∷ lines) = if is_wrong_title line then Some (Title line.number) else title_fault lines
@@ -59,7 +61,8 @@ pub record BlockLines : Type 0 where
   pub id : Word
   pub lines : List NumberedLine
 
--- Each title begins a block. The block ends before the next title or, if there is none, at the end of the text.
+-- Each title begins a block. The block ends before the next title or, if there is none, at the end of the
+-- text. Lines before the first title belong to no block.
 abbrev pub blocks_of : List NumberedLine → List BlockLines
 blocks_of [] = []
 blocks_of (line ∷ lines) =

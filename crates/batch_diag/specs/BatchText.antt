@@ -10,11 +10,12 @@ use Rattle.batch_diag.specs.Verdicts.{Verdict}
 abbrev pub title_line : List ℕ → List ℕ
 title_line id = line_of (codes "BOARD " ∷ id ∷ [])
 
--- a block's title, followed by the text of the diagnosis in its verdict
+-- a block's title, followed by the text of the diagnosis that the verdict gives
 abbrev pub block_text : RawBoard → Block → Verdict → List ℕ
 block_text board block verdict = title_line block.id ++ diag_text board verdict.pass verdict.faults
 
--- the texts of the blocks with their verdicts, in order
+-- the texts of the blocks with their verdicts, in order; if the lists have different lengths, the rest of the
+-- longer list is left out
 abbrev pub batch_text : RawBoard → List Block → List Verdict → List ℕ
 batch_text board [] verdicts = []
 batch_text board (block ∷ blocks) [] = []

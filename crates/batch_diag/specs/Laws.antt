@@ -18,7 +18,8 @@ pub record IsBlockOf (rows len : ℕ) (title : NumberedLine) (lines : List Numbe
   pub inside : All (λ line. begins_block line ≡ false) lines
   pub log : rows_of_lines rows len lines ≡ Ok block.log
 
--- the lines consist of the lines of each block, in order: its title, and then the lines of its log
+-- the lines consist of the lines of each block, in order: the block's title, and then the lines of the
+-- block's log
 abbrev pub AreBlocksOf : ℕ → ℕ → List NumberedLine → List Block → Type 0
 AreBlocksOf rows len lines [] = lines ≡ []
 AreBlocksOf rows len lines (block ∷ blocks) =
@@ -37,9 +38,10 @@ BlocksAreTheLines =
 abbrev pub AreRight : List NumberedLine → Type 0
 AreRight lines = All (λ line. is_wrong_title line ≡ false) lines
 
--- The fault is the first fault of the lines. `Start` is the fault of the first line, if this line is not a title. `Title` is the fault of
--- the first wrong title, if the first line is a title. `Inner` is the fault of the first block whose lines are not a log, if the first line
--- is a title and no title is wrong.
+-- The fault is the first fault of the lines. `Start` is the fault of the first line, if this line is not a
+-- title. `Title` is the fault of the first wrong title, if the first line is a title. `Inner` is the fault of
+-- the first block whose lines are not a log, if the first line is a title and no title is wrong. `Memory` is
+-- never the first fault.
 abbrev pub IsFirstFault : ℕ → ℕ → List NumberedLine → BatchFault → Type 0
 IsFirstFault rows len lines (Start n) =
     (line : NumberedLine) × (later : List NumberedLine) × (begins_block line ≡ false)

@@ -57,7 +57,8 @@ BlocksByThemselves =
     (text : List ℕ) (rows len : ℕ) (blocks : List Block)
     → (blocks_of_text text rows len ≡ Ok blocks) ↔ HoldsBlocks text rows len blocks
 
--- The fault of a text, with its line number in a longer text. In the longer text, `before` lines come before this text.
+-- The fault of a text that is part of a longer text, with the line number in the longer text. In the longer
+-- text, `before` lines come before this text. A fault without a line number stays unchanged.
 abbrev pub moved_fault : ℕ → LogFault → LogFault
 moved_fault before (Digit n) = Digit (before + n)
 moved_fault before (Length n) = Length (before + n)
@@ -65,8 +66,9 @@ moved_fault before (Missing found) = Missing found
 moved_fault before (Extra n) = Extra (before + n)
 moved_fault before (Memory e) = Memory e
 
--- The text consists of lines without words, followed by blocks. Block `board`, counted from 1, is the first block whose own text does not
--- hold a log. `fault` is the fault of this own text, with its line number in the whole text.
+-- The text consists of lines without words, followed by blocks. Block `board`, counted from 1, is the first
+-- block whose own text does not hold a log. `fault` is the fault of this own text, with the line number in
+-- the whole text, if the fault has a line number.
 pub record FailsInBlock (text : List ℕ) (rows len board : ℕ) (fault : LogFault) : Type 0 where
   pub front : List (List ℕ)
   pub earlier : List BlockText
@@ -79,7 +81,8 @@ pub record FailsInBlock (text : List ℕ) (rows len board : ℕ) (fault : LogFau
   pub fails : log_rows (own_text block) rows len ≡ Err own
   pub line : fault ≡ moved_fault (length (front ++ flat_map lines_of_block earlier) + 1) own
 
--- if `blocks_of_text` returns the fault of a block, it is the fault of the block's own text
+-- if `blocks_of_text` returns the fault of a block, it is the fault of the block's own text, with the line
+-- number in the whole text
 abbrev pub FaultByItself : Type 0
 FaultByItself =
     (text : List ℕ) (rows len board : ℕ) (fault : LogFault)

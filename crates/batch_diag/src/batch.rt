@@ -4,7 +4,8 @@ ghost use Rattle.batch_diag.specs.Verdicts.{AreLogs};
 use crate::block::Block;
 use fault_sim::TestUniverse;
 
-/// The test of a board, with the board's universe, and blocks with logs of the test.
+/// The test of a board, with the board's universe (the numbered possible single faults), and blocks with logs
+/// of the test.
 #[derive(Clone, Copy)]
 pub struct Batch<'a, 'b> {
     pub test: &'a TestUniverse<'b>,

@@ -26,7 +26,8 @@ pub enum BatchFault {
     Memory(AllocError),
 }
 
-// The text of a block's fault. If rows are missing, the text has the number of the block. Otherwise it has the number of the line.
+// The text of a block's fault. If rows are missing, the text has the number of the block. Otherwise it has
+// the number of the line, since `fault` is never lack of memory.
 #[derive(Clone, Copy)]
 struct BlockText<'a> {
     board: u32,

@@ -17,17 +17,18 @@ pub fn fault_is_the_first()
     ensures { FaultIsTheFirst }
 {}
 
-/// Each block is read and diagnosed as if it were alone. The lines below its title are a text that holds its log. If the reported fault is
-/// the fault of a block, it is the fault of this text, with its line number in the whole text. Below the title, the output has the
-/// diagnosis of the log that this text holds.
+/// Each block is read and diagnosed as if it were alone. The lines below a block's title, as a text of their
+/// own, hold the block's log. If the reported fault is the fault of a block, it is the fault of this text,
+/// with the line number in the whole text. Below the title, the output has the diagnosis of the log that this
+/// text holds.
 pub fn blocks_stand_by_themselves()
     ensures logs { BlocksByThemselves }
     ensures fault { FaultByItself }
     ensures diagnoses { DiagnosesByThemselves }
 {}
 
-/// The text that `write_batch` writes for blocks and their verdicts consists of each block's title and the diagnosis of its log, in the
-/// order of the blocks.
+/// The text that `write_batch` writes for blocks and their verdicts consists of each block's title and the
+/// diagnosis of the block's log, in the order of the blocks.
 pub fn verdicts_make_text()
     ensures { VerdictsMakeText }
 {}

@@ -114,7 +114,8 @@ pub fn start_fault(text: TextSlice<'_>) -> Option<BatchFault>
     None
 }
 
-// Returns `Start(number)` unless the line is a title. The line is the first line of the text that has words, and `number` is its number.
+// Returns `Start(number)` unless the line is a title, and otherwise `None`. The line is the first line of the
+// text that has words, and `number` is its number.
 fn no_title(line: &[u8], number: u32) -> Option<BatchFault>
     ensures { result ≡ start_fault (record { number = number; words = words_of line.now } ∷ []) }
 {

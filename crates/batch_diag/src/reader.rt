@@ -70,8 +70,8 @@ fn count(reading: &Reading<'_>) -> usize
     reading.unread.len()
 }
 
-// Returns the blocks of a text with their logs unread. If a line with words comes before the first title, or if a title is wrong, returns
-// the fault instead.
+// Returns the blocks of a text with their logs unread. If a line with words comes before the first title, or
+// if a title is wrong, returns the fault instead. If memory runs out, returns `Memory`.
 fn reading_of<'a>(
     alloc: Global,
     text: TextSlice<'a>,
@@ -104,8 +104,8 @@ fn unread_at<'a>(reading: &Reading<'a>, i: usize) -> UnreadBlock<'a>
     reading.unread[i]
 }
 
-// Returns the blocks `first..end`, counted from 0, or the fault of the first of these blocks whose lines are not a log. `first..end` must
-// be a range of the blocks.
+// Returns the blocks `first..end`, counted from 0, or the fault of the first of these blocks whose lines are
+// not a log, or `Memory` if memory runs out first. `first..end` must be a range of the blocks.
 fn read_between(
     alloc: Global,
     reading: &Reading<'_>,
@@ -129,8 +129,8 @@ fn read_between(
     Ok(found)
 }
 
-// Reads all blocks in as many pieces as there are workers and returns them. Returns the fault of the first block whose lines are not a
-// log, if there is one.
+// Reads all blocks in as many pieces as there are workers and returns them. Returns the fault of the first
+// block whose lines are not a log, if there is one. Returns `Memory` if memory runs out, as for `blocks_by`.
 fn read_pieces<R: Threads + Sync>(
     rt: &R,
     alloc: Global,

@@ -109,7 +109,8 @@ run_put command held before now asked asked' request out out' notes read put = r
   memory_asks = λ e. absurd cc;
 }
 
--- if a command's texts have a fault and the notes took the line of the fault, the run agrees with the status `Refused`
+-- if a command's texts have a fault, or one of them is too long, and the notes took the line for this, the
+-- run agrees with the status `Refused`
 refused_run : (command : Command) (held : Held) (before now : Text → ℕ) (asked asked' : List Text)
     (reading : Reading) (line : Text) (out notes notes' : Shown)
     → IsRead held (wanted_of command) reading
@@ -320,7 +321,7 @@ same_outcome held command reading other a b one known is gives_a gives_b =
 apart : {text line : Text} → ◌≡◌ {A = Result Text Text} (Ok text) (Err line) → ⊥
 apart e = cc e
 
--- a run of a command is complete (`IsComplete`): if no count of faults rose and the reading of its
+-- a run of a command is complete (`IsComplete`): if no count of faults rose and the reading of the command's
 -- texts is known, the outcome determines the status, unless memory ran out
 pub run_complete : OneOutcome → SomeOutcome
     → (command : Command) (held : Held) (before now : Text → ℕ) (asked asked' : List Text)
@@ -390,9 +391,9 @@ one_said text_of line_of IsFound a b one says_a says_b =
     let y = found_of text_of line_of IsFound b says_b in
     x.2 ∙ ap (said text_of line_of) (one x.0 y.0 x.1 y.1) ∙ sym y.2
 
--- An answer is the value that texts give, or their first fault. The text of a device, and the texts of a chain, of its
--- identification codes and of a board, have at most one answer each. Other crates prove these laws, so lemmas take them
--- as arguments.
+-- An answer is the value that texts give, or their first fault. The text of a device, and the texts of a
+-- chain, of a chain's identification codes and of a board, have at most one answer each. Other crates prove
+-- these laws, so lemmas take them as arguments.
 abbrev OneDevice : Type 0
 OneDevice = (text : Text) → AtMostOne (IsDeviceText text)
 
@@ -633,8 +634,8 @@ some_said : {A F : Type 0} (text_of : A → Text) (line_of : F → Text) (IsFoun
     → HasAnswer IsFound → HasOutcome (IsSaid text_of line_of IsFound)
 some_said text_of line_of IsFound some = says text_of line_of IsFound some.0 some.1
 
--- The text of a device, and the texts of a chain, of its identification codes and of a board, have an answer each. Other crates prove these
--- laws, so lemmas take them as arguments.
+-- The text of a device, and the texts of a chain, of a chain's identification codes and of a board, have an
+-- answer each. Other crates prove these laws, so lemmas take them as arguments.
 abbrev SomeDevice : Type 0
 SomeDevice = (text : Text) → HasAnswer (IsDeviceText text)
 

@@ -86,8 +86,8 @@ pub record IsCutShort (held : Held) (command : Command) (asked asked' : List Tex
 abbrev pub TookOrCut : Shown → Shown → Text → Type 0
 TookOrCut old new line = Takes old new line ⊎ (Rose old.faults new.faults × ((bytes : ℕ) × Takes old new (take bytes line)))
 
--- The texts that the run read have a first fault, and the notes took the line for this fault, whole or cut short (`TookOrCut`). The run
--- asked for no text after a text that is too long.
+-- The texts that the run read have a first fault, or one of them is too long. The notes took the line for
+-- this, whole or cut short (`TookOrCut`). The run asked for no text after a text that is too long.
 pub record IsRefused (held : Held) (command : Command) (asked asked' : List Text) (old new : Shown) : Type 0 where
   pub reading : Reading
   pub read : IsRead held (wanted_of command) reading

@@ -15,7 +15,8 @@ text_fault_line names (OfBatch rows fault) = batch_fault_line names.log rows fau
 abbrev pub board_roles : Text → BoardNames → Names
 board_roles log names = record { log = log; chain = names.chain; nets = names.nets; bsdl = names.bsdl }
 
--- the names of the texts of a command, each name in the field for its kind of text
+-- the names of the texts of a command, each name in the field for its kind of text; a kind without a text
+-- has an empty name or none, and `Make`, which reads no text, has fixed names
 abbrev pub roles_of : Command → Names
 roles_of (Chain names) = record { log = []; chain = names.chain; nets = []; bsdl = names.bsdl }
 roles_of (Device bsdl) = record { log = []; chain = []; nets = []; bsdl = bsdl ∷ [] }

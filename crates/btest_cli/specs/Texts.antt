@@ -53,7 +53,8 @@ abbrev pub reading_of : (Text → Option Text) → List Wanted → Option Readin
 reading_of held [] = Some (Read [])
 reading_of held (wanted ∷ others) = read_first wanted (held wanted.name) (reading_of held others)
 
--- the result of reading these texts in order, if `found` has the texts that the store gives for them
+-- The result of reading these texts in order, if `found` has the texts that the store gives for them. It is
+-- `None` if `found` ends before a text that is read.
 abbrev pub reading_in : List Wanted → List Text → Option Reading
 reading_in [] found = Some (Read [])
 reading_in (wanted ∷ others) [] = None

@@ -52,8 +52,8 @@ pub fn run<R: Threads + Sync, S: Store, K: Sink, N: Sink, G: Gate>(
         (K.shown out.old) (K.shown out.new)) }
     ensures silent { result ≡ Status.Done → N.shown notes.new ≡ N.shown notes.old }
 
-    // Refused: the texts that `run` read have a first fault, and `notes` took the line of that fault. `run` asked for no text after a text
-    // that is too long.
+    // Refused: the texts that `run` read have a first fault, or one of them is too long. `notes` took the
+    // line for this. `run` asked for no text after a text that is too long.
     ensures refused { result ≡ Status.Refused
         → ForCommand words.now
         (λ c. IsRefused (S.held store.old) c (S.asked store.old) (S.asked store.new)

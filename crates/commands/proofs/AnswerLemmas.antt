@@ -40,7 +40,7 @@ answers_fault IsFound text_of IsWorth shown (input.NoIdent line) is = (is, refl)
 pub takes_by : {T E : Type 0} {x : T} {r : Result T E} (old new : Shown) (text : Text) → Puts old new text r → r ≡ Ok x → Takes old new text
 takes_by {T} {E} {x} {r} old new text puts ok = (subst (λ (q : Result T E). Puts old new text q) ok puts).whole
 
--- if the write fails, the sink takes a prefix of the text, and its count of faults rises
+-- if the write fails, the sink takes a prefix of the text, and the sink's count of faults rises
 pub cut_short : {T E : Type 0} {e : E} {r : Result T E} (old new : Shown) (text : Text)
     → Puts old new text r → r ≡ Err e → IsPutInPart text old new
 cut_short {T} {E} {e} {r} old new text puts err =
@@ -60,7 +60,8 @@ by_put P text old new (Err (unput.Batch rows fault)) bad whole cut none = absurd
 by_put P text old new (Err unput.Write) short whole cut none = cut short
 by_put P text old new (Err unput.Memory) same whole cut none = none same
 
--- if the command finds a value, and `IsWorth` holds for its text, `Answers` holds for the result of writing the text
+-- if the command finds a value, and `IsWorth` holds for the value's text, `Answers` holds for the result of
+-- writing the text
 pub text_answers : {A : Type 0} (IsFound : Result A InputFault → Type 0) (text_of : A → Text)
     (IsWorth : Text → Type 0) (value : A) → IsFound (Ok value)
     → (old new : Shown) (result : Result (Unit {0}) Unput) → PutsText (text_of value) old new result

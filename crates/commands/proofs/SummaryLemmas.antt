@@ -45,7 +45,7 @@ same_counts {a} {a'} {b} {b'} {c} {c'} {d} {d'} {e} {e'} {f} {f'} p q r s t u =
     ∙ ap (λ n. counts_line a' b' n d e f) r ∙ ap (λ n. counts_line a' b' c' n e f) s
     ∙ ap (λ n. counts_line a' b' c' d' n f) t ∙ ap (λ n. counts_line a' b' c' d' e' n) u
 
--- if a plan has the board's passes, its number of scans is the number of scans of the board's test
+-- if a plan has the board's passes, the plan's number of scans is the number of scans of the board's test
 scans_of : (board : RawBoard) (plan : PlanTables) → IsPlanOf board plan
     → plan.passes ≡ passes_of board
     → ((b : RawBoard) (passes : List (List Ctl)) (width : ℕ)

@@ -33,10 +33,10 @@ pub record IsPutBy {A F : Type 0} (IsFound : Result A F → Type 0) (text_of : A
   pub takes : Takes old new (text_of value)
   pub worth : IsWorth (text_of value)
 
--- The answer of a command that finds a value or a fault in its texts. If it finds a value, it
--- writes the value's text, for which `IsWorth` holds, or a prefix of this text if the sink
--- fails. If it finds a fault, it writes nothing and returns the fault. If memory runs out, it
--- writes nothing.
+-- The answer of a command that finds a value or a fault in its texts. If it finds a value, it writes the
+-- value's text, for which `IsWorth` holds, or a prefix of this text if the sink fails. If it finds a fault,
+-- it writes nothing and returns the fault. If memory runs out, it writes nothing. It never returns a fault of
+-- a log or of a batch.
 abbrev pub Answers : {A : Type 0} → (Result A InputFault → Type 0) → (A → Text) → (Text → Type 0)
     → Shown → Shown → Result (Unit {0}) Unput → Type 0
 Answers IsFound text_of IsWorth old new (Ok done) = IsPutBy IsFound text_of IsWorth old new

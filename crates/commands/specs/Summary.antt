@@ -16,8 +16,9 @@ counts_line devices nets covered passes scans bytes =
     decimal covered ∷ codes " PASSES " ∷ decimal passes
     ∷ codes " SCANS " ∷ decimal scans ∷ codes " BYTES " ∷ decimal bytes ∷ [])
 
--- The line with the numbers of devices, nets and covered nets of a board, and the numbers of passes, scans and bytes of the board's test.
--- If the number of bytes is too large for 64 bits, the line has the largest 64-bit number instead.
+-- The line with the numbers of devices, nets and covered nets of a board, and the numbers of passes, scans
+-- and bytes of the board's test. If the number of bytes is too large for 64 bits, the line has the largest
+-- 64-bit number instead. A net is covered if the test observes it.
 abbrev pub summary_text : RawBoard → Text
 summary_text board =
     counts_line (length board.chain) (length board.nets) (length (covered board))

@@ -46,8 +46,9 @@ pub record IsDeviceListing (text listing : Text) : Type 0 where
   pub rules : IsDevice device
   pub is : listing ≡ device_text device
 
--- The text is a coverage list of the board that these texts denote. The board satisfies the rules of a board (`IsBoard`). The statements of
--- the list about nets, pins and pairs are true for all safe settings.
+-- The text is a coverage list of the board that these texts denote. The board satisfies the rules of a board
+-- (`IsBoard`). The statements of the list about nets, pins and pairs are true for all safe settings. A safe
+-- setting is a set of controls that a test may enable together.
 pub record IsCoverText (texts : BoardTexts) (text : Text) : Type 0 where
   pub board : RawBoard
   pub denoted : Denotes texts.chain texts.nets texts.bsdl board
@@ -101,9 +102,9 @@ pub record RespondOnce (board : RawBoard) : Type 0 where
   pub one : (single : Single) (log other : List (List Bool)) → Explains board single log
       → Explains board single other → AgreeOn board (svf_row_scans board) log other
 
--- The text is the diagnosis of a log of the board's test, and the diagnosis is correct (`IsRight`).
--- The log has a row for each compared SDR statement of the test, in the order of the statements.
--- Each row has a bit for each position of a data scan. The text of the test has its meaning
+-- The text is the diagnosis of a log of the board's test, and the diagnosis is correct (`IsRight`). The log
+-- has a row for each compared SDR statement of the test, in the order of the statements. Each row has a bit
+-- for each position of a data scan. The text of the test means the TAP clocks of the test's scans
 -- (`TestMeans`), and each single fault has one response to the test (`RespondOnce`).
 pub record Diagnoses (log : Text) (board : RawBoard) (text : Text) : Type 0 where
   pub means : TestMeans board
@@ -116,7 +117,8 @@ pub record Diagnoses (log : Text) (board : RawBoard) (text : Text) : Type 0 wher
   pub right : IsRight board rows pass faults
   pub is : text ≡ diag_text board pass faults
 
--- Like `Diagnoses`, but for a batch of logs. For each block, the text has the block's title and the diagnosis of its log.
+-- Like `Diagnoses`, but for a batch of logs. For each block, the text has the block's title and the diagnosis
+-- of the block's log.
 pub record DiagnosesEach (log : Text) (board : RawBoard) (text : Text) : Type 0 where
   pub means : TestMeans board
   pub respond : RespondOnce board
@@ -127,10 +129,11 @@ pub record DiagnosesEach (log : Text) (board : RawBoard) (text : Text) : Type 0 
   pub right : EachPair (λ block verdict. IsRight board block.log verdict.pass verdict.faults) blocks verdicts
   pub is : text ≡ batch_text board blocks verdicts
 
--- The text names the groups that explain a log of a board's walking test, whose text has its
--- meaning (`WalkMeans`). The log has a row for each compared SDR statement of the test. `found` is
--- the only set of groups that explains the log, or `None` if no set explains it. Each set of groups
--- explains some log, and all logs that one set explains have the same compared bits.
+-- The text names the groups that explain a log of a board's walking test, or says that no set of groups
+-- explains it. The text of the walking test means the TAP clocks of the test's scans (`WalkMeans`). The log
+-- has a row for each compared SDR statement of the test. `found` is the only set of groups that explains the
+-- log, or `None` if no set explains it. Each set of groups explains some log, and all logs that one set
+-- explains have the same compared bits.
 pub record IsGroupsText (log : Text) (board : RawBoard) (text : Text) : Type 0 where
   pub means : WalkMeans board
   pub rows : List (List Bool)

@@ -122,8 +122,8 @@ fn board_counts(alloc: Global, board: &Board) -> Result<Counts, AllocError>
     counts
 }
 
-// Like `board_counts`, but also takes `classes` and `pins`. These must be the board's classes (what its nets, pins and controls can do in
-// safe settings) and the pins of its nets.
+// Like `board_counts`, but also takes `classes` and `pins`. These must be the board's classes (what the
+// board's nets, pins and controls can do in safe settings) and the pins of the board's nets.
 fn classed_counts(
     alloc: Global,
     board: &Board,

@@ -102,10 +102,10 @@ fn singles_respond(board: &Board)
 }
 
 /// States the laws on which the diagnoses of a board rest. The board satisfies the rules of a board
-/// (`IsBoard`). The text of any data scans has a meaning (`meaning`): the TAP clocks of the test
-/// with these scans. A log with `test_rows` rows of `data_bits` bits has the shape of a log of the
-/// board's test. Each single fault of the board has one response. A diagnosis lists exactly the
-/// faults that explain its log. No fault explains a log that passes. Does nothing.
+/// (`IsBoard`). The text of any data scans has a meaning (`meaning`): the TAP clocks of the test with these
+/// scans. A log with `test_rows` rows of `data_bits` bits has the shape of a log of the board's test. Each
+/// single fault of the board has one response. A diagnosis lists exactly the faults that explain the
+/// diagnosed log. No fault explains a log that passes. Does nothing.
 pub fn judging_laws(board: &Board)
     ensures rules { IsBoard board.now }
     ensures means { (scans : List RowScan)

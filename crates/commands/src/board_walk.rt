@@ -34,7 +34,7 @@ use tap_defs::board_law::{rows_compared, statements_compared};
 use walk_test::Walk;
 use walk_test::law::{scans_counted, walk_harmless};
 
-/// A board and its walking test. Its value in contracts is this pair.
+/// A board and the walking test of this board. The value in contracts is the pair of the two.
 #[derive(Drop)]
 pub struct Walked {
     pub board: Board,
@@ -125,8 +125,8 @@ fn walk_of(alloc: Global, board: &Board) -> Result<Walk, AllocError>
     walk
 }
 
-// Like `walk_of`, but also takes `classes` and `pins`. These must be the board's classes (what its nets, pins and controls can do in safe
-// settings) and the pins of its nets.
+// Like `walk_of`, but also takes `classes` and `pins`. These must be the board's classes (what the board's
+// nets, pins and controls can do in safe settings) and the pins of the board's nets.
 fn walk_by(
     alloc: Global,
     board: &Board,

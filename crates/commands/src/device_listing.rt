@@ -15,7 +15,8 @@ use device_check::write_device;
 use short_lists::ShortText;
 use std::alloc::Global;
 
-/// Writes the listing, in its default package, of the device that a BSDL text describes. Allocates all memory before the first write.
+/// Writes the listing of the device that a BSDL text describes. The listing is for the device's default
+/// package. Allocates all memory before the first write.
 pub fn device<K: Sink>(alloc: Global, text: &ShortText, out: &mut K) -> Result<(), Unput>
     ensures { Answers (IsDeviceText text.now) device_text (IsDeviceListing text.now)
         (K.shown out.old) (K.shown out.new) result }

@@ -71,9 +71,9 @@ fn write_test<K: Sink>(
     )
 }
 
-// States that the text of the identity test tests whether codes fit these patterns (`IsIdentTest`),
-// and that the scan of the codes has at most 255 times 32 bits. There must be 1 to 255 items, and
-// each pattern must have 32 symbols. Does nothing.
+// States that the text of the identity test tests whether codes fit these patterns (`IsIdentTest`), and that
+// the scan of the codes has at most 255 times 32 bits. `patterns` must have 1 to 255 items, and each pattern
+// must have 32 symbols. Does nothing.
 fn tests_codes(patterns: &[Option<Code>])
     requires { ArePatterns patterns.now }
     ensures tests { IsIdentTest patterns.now (ident_text patterns.now) }

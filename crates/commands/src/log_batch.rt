@@ -23,8 +23,10 @@ use side_by_side::Workers;
 use std::alloc::Global;
 use std::thread::Threads;
 
-/// Writes the diagnoses of `texts.log`, a batch of logs of the board's test. The board is the one that `texts.board` denotes. `workers` is
-/// the number of threads that work on the diagnoses. Allocates all memory before the first write.
+/// Writes the diagnoses of `texts.log`, a batch of logs of the board's test. The board is the one that
+/// `texts.board` denotes. `workers` is the number of threads that work on the diagnoses. Directly before a
+/// thread diagnoses a log, it calls `gate.enter`. The gate does not change the text. Allocates all memory
+/// before the first write.
 pub fn batch<R: Threads + Sync, K: Sink, G: Gate>(
     rt: &R,
     alloc: Global,

@@ -24,8 +24,10 @@ use side_by_side::Workers;
 use std::alloc::Global;
 use std::thread::Threads;
 
-/// Writes the diagnosis of `texts.log`, a log of the board's test. The board is the one that `texts.board` denotes. `workers` is the number
-/// of threads that work on the diagnosis. Allocates all memory before the first write.
+/// Writes the diagnosis of `texts.log`, a log of the board's test. The board is the one that `texts.board`
+/// denotes. `workers` is the number of threads that work on the diagnosis. Directly before a thread tries a
+/// fault, it calls `gate.enter`. The gate does not change the text. Allocates all memory before the first
+/// write.
 pub fn diagnosis<R: Threads + Sync, K: Sink, G: Gate>(
     rt: &R,
     alloc: Global,
@@ -48,7 +50,8 @@ pub fn diagnosis<R: Threads + Sync, K: Sink, G: Gate>(
     }
 }
 
-// Reads a log of the board's test from `text` and writes its diagnosis. The log reuses the memory of the text.
+// Reads a log of the board's test from `text` and writes the diagnosis of the log. The log reuses the memory
+// of the text.
 fn put_diagnosis<R: Threads + Sync, K: Sink, G: Gate>(
     rt: &R,
     alloc: Global,

@@ -1,5 +1,5 @@
-// The board that the texts denote, its classes (what its nets, pins and controls can do in safe settings), the pins of its nets, and the
-// plan of its test.
+// The board that the texts denote, the classes of the board (what the board's nets, pins and controls can do
+// in safe settings), the pins of the board's nets, and the plan of the board's test.
 ghost use Rattle.std.specs.Prelude.{◌≡◌, ◌*◌, Ok, IfOk, IfErr, length};
 ghost use Rattle.board_defs.specs.Passes.{passes_of};
 ghost use Rattle.board_defs.specs.Pins.{data_bits};
@@ -24,8 +24,9 @@ use scan_planner::Plan;
 use std::alloc::{AllocError, Global};
 use std::marker::Model;
 
-/// A board and the plan of its test. The plan has the passes of the board. Its value in contracts is this pair. A `BoardTest` borrows its
-/// board and its plan. This type owns them, so it has an invariant of its own.
+/// A board and the plan of its test. The plan has the passes of the board. The value in contracts is the pair
+/// of the board and the plan. A `BoardTest` only borrows a board and a plan. `Planned` owns them, so it has
+/// an invariant of its own.
 #[derive(Drop)]
 pub struct Planned {
     pub board: Board,

@@ -49,8 +49,9 @@ use Rattle.fault_sim.proofs.OrderLemmas.{place_single}
 use Rattle.fault_sim.proofs.DifferLemmas.{differing_observed, covered_there}
 use Rattle.fault_sim.proofs.SuspectLemmas.{PairAt, pair_at, net_order, net_below, has_stuck, has_open, has_earlier, has_later, pair_order, pair_below, has_pair}
 
--- If the list has one net, this net is covered. If it has two nets, both are covered, and they are in the order of the covered nets. Any
--- other list satisfies the condition.
+-- `covered_place` is the index of a net in the list of covered nets, or 0 for a net without a code. If `nets`
+-- has one net, the index of this net is within the list of covered nets. If `nets` has two nets, both indexes
+-- are within the list, and the first index is lower. Any other `nets` satisfies the condition.
 abbrev pub CanSuspect : PlanTables → FaultLists → List ℕ → Type 0
 CanSuspect plan lists [] = Unit {0}
 CanSuspect plan lists (n ∷ []) = covered_place plan n < length lists.nets

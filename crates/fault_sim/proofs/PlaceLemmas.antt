@@ -285,7 +285,8 @@ next_start nets a start less e =
     let next : suc a ≡ a + 1 = omega arith in
     omega (arith, before_more nets a less, e, less, ap (λ (i : ℕ). pairs_before nets i) next)
 
--- if pair k is a pair of net `low` with a later net, the later net is `low + 1 + (k - start)`
+-- if pair k is a pair of net `low` with a later net, the later net is `low + 1 + (k - start)`; `start` is the
+-- index of the first such pair of net `low`
 pub pair_within : (nets : ℕ) (starts s : List ℕ) → s ≡ starts → ArePairStarts nets starts
     → (low k start : ℕ) → low + 1 < length s → get_or s low 0 ≤ k → k < get_or s (low + 1) 0
     → start ≡ get_or s low 0 →

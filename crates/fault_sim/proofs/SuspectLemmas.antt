@@ -162,7 +162,7 @@ module _ (lists : FaultLists) (starts : ArePairStarts (length lists.nets) lists.
   pub number_below : (a b : ℕ) → a < b → b < nets → pair_number lists a b < pairs_before nets nets
   number_below a b ab b_in = omega (arith, number_high a b ab b_in, before_rises nets (suc a) nets (omega (arith, ab, b_in)) (omega arith))
 
-  -- if only net n differs, its suspects are in ascending order and are places of the board
+  -- if only net n differs, the suspects are in ascending order and are places of the board
   module _ (n k : ℕ) (k_in : k < nets) where
     abbrev pins : List ℕ
     pins = flat_map (pin_suspects lists n) (range_with_len 0 (length lists.pins))

@@ -1,4 +1,5 @@
--- The effect of a single fault on the compared cells of a net in the rows of a pass.
+-- The effect of a single fault on the compared cells of a net in the rows of a pass. No pass observes a
+-- guarded net, for example a net that carries a supply.
 use Rattle.std.specs.Prelude.{ℕ, ◌==◌, Bool, false, not, cond, ◌||◌, List, Option, Some, None, option_map, unwrap_or, slice_get, slice_index_or}
 use Rattle.board_defs.specs.declared.board.Ctl.{Ctl}
 use Rattle.board_defs.specs.declared.board.RawBoard.{RawBoard}
@@ -49,7 +50,8 @@ abbrev pub feed_bit : Option Feed → ℕ → Option Bool
 feed_bit None j = None
 feed_bit (Some feed) j = unless_off feed.off (source_bit feed.source j)
 
--- true if a driver's own cell controls the driver
+-- true if `own`, the driver's own cell taken as a control, is the driver's control; false if the driver has
+-- no control
 abbrev pub is_own : Ctl → Option Ctl → Bool
 is_own own None = false
 is_own own (Some c) = same_ctl c own

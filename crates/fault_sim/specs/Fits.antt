@@ -1,7 +1,8 @@
 -- The conditions under which a log shows the effect of a single fault. A pass of a log shows an effect on a
 -- net if the net's compared cells have, in the rows of the pass, the bits that the effect gives them. Cells
--- that read the enabled driver's pin are not checked. A pass that enables no driver on the net shows every
--- effect on it.
+-- that read the enabled driver's pin are not checked. If the pass enables no driver on the net, or if the net
+-- is guarded, the pass shows every effect on the net. No pass observes a guarded net, for example a net that
+-- carries a supply.
 use Rattle.std.specs.Prelude.{◌≡◌, ℕ, ◌+◌, ◌*◌, ◌<◌, ◌==◌, Bool, true, ◌||◌, List, [], length, Option, Some, None, slice_index_or}
 use Rattle.std.specs.List.{list_all}
 use Rattle.board_defs.specs.declared.board.Ctl.{Ctl}
@@ -15,8 +16,9 @@ use Rattle.response_log.specs.LogRows.{bit_in}
 use Rattle.fault_sim.specs.declared.effect.Effect.{Effect}
 use Rattle.fault_sim.specs.Effects.{driver_in, place_of_driver, plan_readers, code_in, effect_in, effect_bit, first_net, second_net}
 
--- True if the cell has, in row j of a pass, the bit that the effect gives it, or if the cell reads the enabled driver's pin. `row` is the
--- number of this row in the log, and `driver` is the place of the driver's pin in its net.
+-- True if the cell has, in row j of a pass, the bit that the effect gives it, or if the cell reads the
+-- enabled driver's pin. `row` is the number of this row in the log, and `driver` is the place of the driver's
+-- pin, that is, its index in the net's list of pins.
 abbrev pub cell_shows : List (List Bool) → ℕ → ℕ → Effect → ℕ → Bool → ReaderCell → Bool
 cell_shows log row driver effect j expected r =
     (r.place == driver)
@@ -29,12 +31,14 @@ ShowRows log first width code readers effect driver =
     (j : ℕ) → j < width
     → list_all (cell_shows log (first + j) driver effect j (code_bit code j)) readers ≡ true
 
--- Like `ShowRows`, but `driver` is `None` if the pass enables no driver on the net. In that case, nothing is required.
+-- Like `ShowRows`, but `driver` is `None` if the pass enables no driver on the net or the net is guarded. In
+-- that case, nothing is required.
 abbrev pub ShowBy : List (List Bool) → ℕ → ℕ → ℕ → List ReaderCell → Effect → Option ℕ → Type 0
 ShowBy log first width code readers effect None = Unit {0}
 ShowBy log first width code readers effect (Some driver) = ShowRows log first width code readers effect driver
 
--- Pass x of the log shows an effect on net n. `driver` is the place of the enabled driver's pin, if the pass enables a driver on the net.
+-- Pass x of the log shows an effect on net n. `driver` is the place of the enabled driver's pin, or `None` if
+-- the pass enables no driver on the net or the net is guarded.
 abbrev pub ShowsEffect : PlanTables → List (List Bool) → ℕ → ℕ → Effect → Option ℕ → Type 0
 ShowsEffect plan log x n effect driver = ShowBy log (x * plan.width) plan.width (code_in plan n) (plan_readers plan n) effect driver
 

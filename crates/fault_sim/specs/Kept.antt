@@ -1,5 +1,6 @@
--- Conditions on the kept passes of a test and on a log of the test. A kept pass stores rows and drivers of a pass, so that many logs can
--- share them.
+-- Conditions on the kept passes of a test and on a log of the test. A kept pass stores rows and drivers of a
+-- pass, so that many logs can share them. No pass observes a guarded net, for example a net that carries a
+-- supply.
 use Rattle.std.specs.Prelude.{◌≡◌, ℕ, suc, ◌*◌, Bool, List, [], length, Option, Some, option_map, slice_get, slice_index_or}
 use Rattle.board_defs.specs.declared.board.Ctl.{Ctl}
 use Rattle.board_defs.specs.declared.board.RawBoard.{RawBoard}
@@ -30,8 +31,8 @@ pub record IsComparedRow (board : RawBoard) (plan : PlanTables) (x j : ℕ) (row
   pub tdo : row.tdo.bits ≡ expected_in board plan x j
   pub mask : row.mask.bits ≡ compared_in board plan x j
 
--- An enabled driver of net n: the place of the driver's pin, the bits of the driver's cell, and a flag that is true if this cell controls
--- the driver.
+-- An enabled driver of net n: the place of the driver's pin (its index in the net's list of pins), the bits
+-- of the driver's cell, and a flag that is true if this cell controls the driver.
 abbrev pub enabled_by : PlanTables → List Ctl → ℕ → NetDriver → EnabledDriver
 enabled_by plan pass n d = record { place = d.place; source = source_in plan pass n d; own = is_own d.own d.ctl }
 
@@ -65,7 +66,8 @@ pub record HasKeptPasses (test : PlannedBoard) (kept : List KeptPass) : Type 0 w
   pub rows : KeepRows test.board test.plan kept
   pub drivers : KeepDrivers test.plan kept
 
--- the plan has the board's passes, `drivers` is this pass of the plan, and `rows` are the first rows of the pass
+-- the plan has the board's passes, `drivers` has this plan and the controls that the pass holds, and `rows`
+-- are the first rows of the pass
 pub record IsTestPass (pass : PlannedPass) (drivers : PlanPass) (rows : List ComparedRow) : Type 0 where
   pub passes : pass.test.plan.passes ≡ passes_of pass.test.board
   pub drivers_are : drivers ≡ plan_pass pass.test.plan (controls_of pass)

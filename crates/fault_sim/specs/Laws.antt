@@ -1,5 +1,6 @@
--- Laws of the places of a board and of the suspects of a log. A place is the number of a possible single fault. The suspects are the places
--- whose faults may explain the log.
+-- Laws of the places of a board and of the suspects of a log. A place is the number of a possible single
+-- fault. The suspects are the places whose faults may explain the log. A net is covered if the test observes
+-- the net. A pin is tested if the test uses it as the driver or as a receiver of an observed net.
 use Rattle.std.specs.Prelude.{◌≡◌, ℕ, ◌<◌, Bool, true, List, filter, filter_map, length, All}
 use Rattle.board_defs.specs.declared.board.RawBoard.{RawBoard}
 use Rattle.board_defs.specs.declared.fault.Single.{Single}

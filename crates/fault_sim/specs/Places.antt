@@ -1,5 +1,7 @@
--- The places of a board, which number the possible single faults: stuck nets, open pins and shorts. Each place has one single fault, but
--- the four places of two covered nets that are not paired have no fault. Two nets are paired if one safe setting observes both.
+-- The places of a board, which number the possible single faults: stuck nets, open pins and shorts. Each
+-- place has one single fault, but the four places of two covered nets that are not paired have no fault. A
+-- net is covered if some safe setting observes it, and two nets are paired if one safe setting observes both.
+-- A safe setting is a set of controls that the test may enable together.
 use Rattle.std.specs.Prelude.{◌≡◌, ℕ, ◌+◌, ◌*◌, Bool, true, List, [], ◌∷◌, ◌++◌, map, cond, length, slice_get, Option, Some, None, option_and_then}
 use Rattle.std.specs.List.{flat_map}
 use Rattle.board_defs.specs.declared.board.RawBoard.{RawBoard}

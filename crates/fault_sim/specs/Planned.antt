@@ -4,7 +4,7 @@ use Rattle.board_defs.specs.declared.board.Ctl.{Ctl}
 use Rattle.board_defs.specs.Passes.{passes_of}
 use Rattle.plan_tables.specs.declared.tables.PlanTables.{PlanTables}
 use Rattle.scan_planner.specs.Plans.{IsPlanOf}
--- a board with its plan, and a pass of a board's plan, given by its number
+-- a board with its plan, and a pass of a board's plan, which is given by the number of the pass
 pub use Rattle.scan_planner.specs.Planned.{PlannedBoard, planned_board, PlannedPass, planned_pass}
 
 -- the plan is built from the board's passes
@@ -28,11 +28,11 @@ pub record LoggedBoard : Type 0 where
 abbrev pub logged_board : PlannedBoard → List (List Bool) → LoggedBoard
 logged_board test log = record { test = test; log = log }
 
--- the controls that the pass holds
+-- the controls that the pass holds, or none if the plan has no pass with this number
 abbrev pub controls_of : PlannedPass → List Ctl
 controls_of pass = slice_index_or pass.test.plan.passes pass.number []
 
--- a pass of a log, given by its number
+-- a pass of a log, given by the number of the pass
 pub record PassOfLog : Type 0 where
   pub logged : LoggedBoard
   pub number : ℕ
@@ -40,7 +40,7 @@ pub record PassOfLog : Type 0 where
 abbrev pub pass_of_log : LoggedBoard → ℕ → PassOfLog
 pass_of_log logged number = record { logged = logged; number = number }
 
--- the controls that the pass of the log holds
+-- the controls that the pass of the log holds, or none if the plan has no pass with this number
 abbrev pub held_controls : PassOfLog → List Ctl
 held_controls pass = slice_index_or pass.logged.test.plan.passes pass.number []
 

@@ -8,8 +8,8 @@ use Rattle.fault_sim.specs.declared.fault_lists.FaultLists.{FaultLists}
 use Rattle.fault_sim.specs.Fits.{ShowsOn}
 use Rattle.fault_sim.specs.Places.{place_count, places_of}
 
--- `nets` are the nets that differ in the log, in ascending order. A net differs if some compared cell of the net has a bit other than the
--- expected bit.
+-- `nets` are the nets that differ in the log, in ascending order. A net differs if, in some row, a cell of
+-- the net that the test compares in this row has a bit other than the expected bit.
 pub record AreDiffering (board : RawBoard) (plan : PlanTables) (log : List (List Bool)) (nets : List ℕ) : Type 0 where
   pub rising : AllPairs (λ a b. a < b) nets
   pub others : (n : ℕ) → n < length board.nets → Contains nets n ⊎ ShowsOn board plan None log n

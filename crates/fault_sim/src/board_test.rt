@@ -1,5 +1,5 @@
-// A board's test, and a log of the test. The test can have kept passes. They store rows and drivers of its first
-// passes, so that many logs can share them.
+// A board's test, and a log of the test. A test can have kept passes, which store rows and drivers of the
+// first passes of the test, so that many logs can share them.
 ghost use Rattle.std.specs.Prelude.{◌≡◌, ◌<◌, length};
 ghost use Rattle.board_defs.specs.Passes.{passes_of};
 ghost use Rattle.scan_planner.specs.Plans.{IsPlanOf};

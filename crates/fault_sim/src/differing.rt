@@ -13,8 +13,9 @@ use lists::push_if;
 use std::alloc::{AllocError, Global};
 use std::marker::Model;
 
-/// A log with its test, and the nets that differ in the log, in net order. A net differs if one of its compared cells has a bit other than
-/// the expected bit. The model is the test and the log.
+/// A log with its test, and the nets that differ in the log, in net order. A net differs if, in some row, a
+/// cell of the net that the test compares in this row has a bit other than the expected bit. The model is the
+/// test and the log.
 #[derive(Drop)]
 pub struct ComparedLog<'a> {
     logged: LoggedTest<'a>,

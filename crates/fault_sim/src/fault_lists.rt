@@ -1,5 +1,6 @@
 // The lists of covered nets and tested pins of a board. The possible single faults are computed from them. A
-// net is covered if some safe setting observes it.
+// net is covered if some safe setting observes it. A pin is tested if some safe setting tests it as a driver
+// or as a receiver. A safe setting is a set of controls that the test may enable together.
 ghost use Rattle.std.specs.Prelude.{◌≤◌, length};
 ghost use Rattle.board_defs.specs.Limits.{most_nets, most_pins};
 ghost use Rattle.fault_sim.specs.Starts.{ArePairStarts};

@@ -1,4 +1,5 @@
-// The driver that a pass enables on a net, and the bits that the net gets from this driver.
+// The driver that a pass enables on a net, and the bits that the net gets from this driver. No pass observes
+// a guarded net, for example a net that carries a supply.
 ghost use Rattle.std.specs.Prelude.{◌≡◌, ◌<◌};
 ghost use Rattle.board_defs.specs.Pins.{is_same};
 ghost use Rattle.tap_defs.specs.board.TestRows.{code_bit};

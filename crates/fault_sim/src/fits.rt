@@ -1,5 +1,6 @@
-// Compares the cells of a log with the effect of a fault. Only passes that enable a driver on a net check the
-// cells of the net, and cells that read the enabled driver's pin are never checked.
+// Compares the cells of a log with the effect of a fault. The cells of a net are checked only in passes that
+// enable a driver on the net. Cells that read the enabled driver's pin and cells of guarded nets are never
+// checked. No pass observes a guarded net, for example a net that carries a supply.
 ghost use Rattle.std.specs.Prelude.{◌≡◌, ◌↔◌, ◌<◌, [], length, slice_index_or, All, IsTrue};
 ghost use Rattle.std.specs.List.{list_all};
 ghost use Rattle.tap_defs.specs.board.TestRows.{code_bit};
@@ -90,7 +91,8 @@ impl<'a> NetRows<'a> {
         true
     }
 
-    // Like `show`, but `driver` is `None` if the pass enables no driver on the net. In this case the result is true.
+    // Like `show`, but `driver` is `None` if the pass enables no driver on the net or the net is guarded. In
+    // this case the result is true.
     fn show_by(&self, code: u32, effect: Effect, driver: Option<u32>) -> bool
         ensures { IsTrue result
             ↔ ShowBy self.now.log self.now.first self.now.width code self.now.readers effect

@@ -1,4 +1,5 @@
-// Keeps rows and drivers of a test's passes, so that many logs of the test can share them.
+// Keeps rows and drivers of a test's passes, so that many logs of the test can share them. No pass observes a
+// guarded net, for example a net that carries a supply.
 ghost use Rattle.std.specs.Prelude.{◌≡◌, ◌<◌, ◌≤◌, length, slice_get, IfOk};
 ghost use Rattle.fault_sim.specs.Kept.{IsComparedRow, AreComparedRows, AreDrivers, KeepRows, KeepDrivers};
 ghost use Rattle.fault_sim.specs.Planned.{controls_of};

@@ -1,5 +1,6 @@
-//! Laws of a board's places and of diagnoses. A place is the number of a possible single fault. Each law is the
-//! contract of a function that does nothing.
+//! Laws of a board's places and of diagnoses. A place is the number of a possible single fault. A net is
+//! covered if the test observes the net. A pin is tested if the test uses it as the driver or as a receiver
+//! of an observed net. Each law is the contract of a function that does nothing.
 ghost use Rattle.std.specs.Prelude.{◌≡◌, ◌↔◌, Bool, List, filter, IsTrue};
 ghost use Rattle.board_defs.specs.declared.board.RawBoard.{RawBoard};
 ghost use Rattle.board_defs.specs.declared.fault.Single.{Single};

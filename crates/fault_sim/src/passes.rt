@@ -1,5 +1,6 @@
-// The passes of a board's test, and the passes of a log of the test. A kept pass stores rows and drivers of a pass, so
-// that many logs can share them.
+// The passes of a board's test, and the passes of a log of the test. A kept pass stores rows and drivers of a
+// pass, so that many logs can share them. No pass observes a guarded net, for example a net that carries a
+// supply.
 ghost use Rattle.std.specs.Prelude.{◌≡◌, ◌*◌, ◌<◌, ◌^◌, ◌&&◌, [], length, slice_index_or};
 ghost use Rattle.board_defs.specs.Passes.{passes_of};
 ghost use Rattle.scan_planner.specs.Plans.{IsPlanOf};
@@ -204,8 +205,8 @@ impl<'a> Model for LoggedPass<'a> {
 
 impl<'a> LoggedPass<'a> {
     /// Does nothing. Its contract states four facts: the pass is one of the plan's passes, the plan is a plan
-    /// of the board, its passes are the board's passes, and the log has the rows of the test, each as long as
-    /// a data scan.
+    /// of the board, the plan's passes are the board's passes, and the log has the rows of the test, each as
+    /// long as a data scan.
     pub fn laws(&self)
         ensures pass { self.now.number < length self.now.logged.test.plan.passes }
         ensures plan { IsPlanOf self.now.logged.test.board self.now.logged.test.plan }

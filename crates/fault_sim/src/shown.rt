@@ -1,5 +1,6 @@
-// The bits that the compared cells of a net show in the rows of a pass of a log, as words of 32 bits. A cell shows the bit that the log has
-// at its position. Bit `j` of a word belongs to row `j` of the pass.
+// The bits that the compared cells of a net show in the rows of a pass of a log, as words of 32 bits. A cell
+// shows the bit that the log has at its position. Bit `j` of a word belongs to row `j` of the pass. No pass
+// observes a guarded net, for example a net that carries a supply.
 ghost use Rattle.std.specs.Prelude.{◌≡◌, ◌↔◌, ℕ, ◌+◌, ◌<◌, ◌==◌, ◌&&◌, ◌||◌, nat_lt, Some, [], ◌∷◌, length, All, IsTrue};
 ghost use Rattle.response_log.specs.LogRows.{bit_in};
 ghost use Rattle.fault_sim.specs.Planned.{net_in_pass};
@@ -103,7 +104,8 @@ impl<'a> NetRows<'a> {
         shown
     }
 
-    // Like `shown_beside`, but `driver` is `None` if the pass enables no driver on the net. In this case both words are 0.
+    // Like `shown_beside`, but `driver` is `None` if the pass enables no driver on the net or the net is
+    // guarded. In this case both words are 0.
     fn shown(&self, driver: Option<u32>) -> ShownWords
         ensures { AreShown self.now driver result }
     {

@@ -1,4 +1,5 @@
-// Finds the suspects of a log: the places whose faults may explain it.
+// Finds the suspects of a log: the places whose faults may explain it. A net is covered if some safe setting
+// observes it. A safe setting is a set of controls that the test may enable together.
 ghost use Rattle.std.specs.Prelude.{◌≡◌, ◌+◌, ◌-◌, ◌*◌, ◌<◌, ◌^◌, ◌++◌, suc, length, All, IfOk, OnOk, slice_get, Some};
 ghost use Rattle.std.specs.List.{flat_map, range_with_len};
 ghost use Rattle.board_defs.specs.Passes.{passes_of};

@@ -1,4 +1,6 @@
 // The universe of a board: the places of its single faults. A place is the number of a possible single fault.
+// A net is covered if some safe setting observes it. A safe setting is a set of controls that the test may
+// enable together.
 ghost use Rattle.std.specs.Prelude.{◌≡◌, ◌+◌, ◌-◌, ◌<◌, ◌≤◌, true, length, slice_get, slice_index_or, IfOk, Some};
 ghost use Rattle.std.specs.List.{flat_map};
 ghost use Rattle.board_defs.specs.declared.board.RawBoard.{RawBoard};
@@ -67,7 +69,7 @@ fn holds_pair(starts: &[u64], row: usize, k: u64) -> bool
 }
 
 // Returns the index of the first net of pair `k` in the list of covered nets, by binary search. `starts` must
-// not be empty. `k` must be at least its first item and below its last item.
+// not be empty. `k` must be at least the first item of `starts` and below the last item.
 fn halved_row(starts: &[u64], k: u64) -> usize
     requires some { 0 < length starts.now }
     requires first { slice_index_or starts.now 0 0 ≤ k }
@@ -147,6 +149,7 @@ fn pin_at(pins: &[PinRef], k: usize) -> Option<PinRef>
 }
 
 // Returns fault `i` in the list of these nets' stuck faults. Each net has two such faults, stuck at 0 first.
+// Returns `None` if the list has no fault `i`.
 fn stuck_at(nets: &[u32], i: u64) -> Option<Single>
     ensures { result ≡ slice_get (flat_map stuck_faults nets.now) i }
 {
@@ -160,6 +163,7 @@ fn stuck_at(nets: &[u32], i: u64) -> Option<Single>
 }
 
 // Returns fault `i` in the list of these pins' open faults. Each pin has two such faults, with value 0 first.
+// Returns `None` if the list has no fault `i`.
 fn open_at(pins: &[PinRef], i: u64) -> Option<Single>
     ensures { result ≡ slice_get (flat_map open_faults pins.now) i }
 {
@@ -172,8 +176,10 @@ fn open_at(pins: &[PinRef], i: u64) -> Option<Single>
     }
 }
 
-// Returns pair `k` of the covered nets, with the lower net first. `near` is the index, in the list of covered nets, of the first net of the
-// pair that the last look-up found. This look-up sets `near` to the index of the first net of pair `k`.
+// Returns pair `k` of the covered nets, or `None` if there is no pair `k`. The net that comes first in the
+// list of covered nets is the first net of the pair. On entry, `near` is the index, in the list of covered
+// nets, of the first net of the pair that the last look-up found. If there is a pair `k`, sets `near` to the
+// index of the first net of this pair.
 fn pair_at(lists: &FaultLists, k: u64, near: &mut usize) -> Option<(u32, u32)>
     ensures { result ≡ slice_get (pairs_within lists.now.nets) k }
 {
@@ -203,8 +209,9 @@ fn kind_at(k: u64) -> Kind
     }
 }
 
-// Returns short `k` in the list of the shorts of all pairs of covered nets. Each pair has four shorts. The short is
-// returned even if no pass observes both nets. `near` only speeds up the look-up, as in `pair_at`.
+// Returns short `k` in the list of the shorts of all pairs of covered nets. Each pair has four shorts. The
+// short is returned even if no pass observes both nets. Returns `None` if there is no short `k`. `near` only
+// speeds up the look-up, as in `pair_at`.
 fn short_at(lists: &FaultLists, k: u64, near: &mut usize) -> Option<Single>
     ensures { (plan : PlanTables)
         → listed_at (flat_map (number_places plan) (pairs_within lists.now.nets)) k
@@ -216,8 +223,8 @@ fn short_at(lists: &FaultLists, k: u64, near: &mut usize) -> Option<Single>
     Some(Single::Short { a, b, kind })
 }
 
-// Returns the fault at place `i`. A short is returned even if no pass observes both of its nets. `near` only speeds up
-// the look-up of a short, as in `pair_at`.
+// Returns the fault at place `i`. A short is returned even if no pass observes both of its nets. Returns
+// `None` if there is no place `i`. `near` only speeds up the look-up of a short, as in `pair_at`.
 fn place_at(lists: &FaultLists, i: u64, near: &mut usize) -> Option<Single>
     ensures { (plan : PlanTables)
         → listed_at (listed_places plan lists.now) i ≡ where_observed plan result }
@@ -307,10 +314,11 @@ impl Universe {
         where_observed(plan, self.candidate(i, &mut near))
     }
 
-    /// Returns the fault at place `i`. For a place of a pair of covered nets, returns a short even if no pass observes both nets. `near`
-    /// only speeds up the look-up of a pair. Pass a variable that is 0 at first, and pass it again to later look-ups. Each look-up of a
-    /// pair sets this variable to the index of the pair's first net in the list of covered nets. If the places are looked up in ascending
-    /// order, nearly every look-up then needs no search. Allocates nothing.
+    /// Returns the fault at place `i`. For a place of a pair of covered nets, returns a short even if no pass
+    /// observes both nets. Returns `None` if there is no place `i`. `near` only speeds up the look-up of a
+    /// pair. Pass a variable that is 0 at first, and pass it again to later look-ups. Each look-up of a pair
+    /// sets this variable to the index of the pair's first net in the list of covered nets. If the places are
+    /// looked up in ascending order, nearly every look-up then needs no search. Allocates nothing.
     pub fn candidate(&self, i: u64, near: &mut usize) -> Option<Single>
         ensures { (plan : PlanTables)
             → listed_at (listed_places plan self.now) i ≡ where_observed plan result }

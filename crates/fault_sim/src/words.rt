@@ -64,8 +64,8 @@ fn rows_on(off: Option<bool>, value: u32) -> u32
     }
 }
 
-// Returns the rows in which a net is driven, and the bits to which it is driven, as words. `feed` gives the bits of the
-// net's enabled driver. If it is `None`, the net is driven in no row.
+// Returns the rows in which a net is driven, and the bits to which it is driven, as words. `feed` gives the
+// bits of the net's enabled driver. If `feed` is `None`, the net is driven in no row.
 #[inline]
 fn feed_words(feed: Option<Feed>) -> FeedWords
     ensures { (j : ℕ) → j < 32 → driven_bit result j ≡ feed_bit feed j }

@@ -48,7 +48,8 @@ module _ (run : Run) (is : IsRun run) (command : Command) (asks : HasWordsOf run
   pub none_rose : NoReadFailed run command → SomeRose run.old.unread run.new.unread (names_in_command command) → ⊥
   none_rose calm rose = let one = some_rose run.old.unread run.new.unread (names_in_command command) rose in calm one.0 one.1 one.2
 
-  -- if no read failed, the outcome of the texts that were read determines the status
+  -- if the reading of the command's texts is known and no read failed, the reading has an outcome, and this
+  -- outcome determines the status, unless memory ran out
   pub settled : (reading : Reading) → known_reading run.old.held (wanted_of command) ≡ Some reading
       → NoReadFailed run command
       → (outcome : Result Text Text) × IsOutcome command reading outcome
@@ -68,7 +69,8 @@ module _ (run : Run) (is : IsRun run) (command : Command) (asks : HasWordsOf run
   pub cut_here : run.status ≡ WriteFault → IsCutShort run.old.held command run.old.asked run.new.asked (out_of run.old) (out_of run.new)
   cut_here e = here (λ c. IsCutShort run.old.held c run.old.asked run.new.asked (out_of run.old) (out_of run.new)) (is.cut e)
 
-  -- if the texts that were read give the line of a fault, the run ends as Refused
+  -- if the reading of the command's texts is known and gives the line of a fault, the run ends as Refused,
+  -- unless a read failed or memory ran out
   pub ends_refused : SayOne → (reading : Reading) (line : Text)
       → known_reading run.old.held (wanted_of command) ≡ Some reading
       → IsOutcome command reading (Err line) → EndsWith run command Refused

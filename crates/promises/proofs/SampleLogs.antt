@@ -1,5 +1,6 @@
--- Samples of texts that hold a log of a small board's test or a batch of logs, and of texts that hold neither. They are worked out by hand.
--- The board has four data bits, and its test has two SDR statements that compare.
+-- Samples of texts that hold a log of a small board's test or a batch of logs, and of texts that hold
+-- neither. They are worked out by hand. The board has four data bits, and the board's test has two SDR
+-- statements that compare bits.
 use Rattle.std.proofs.Common.{◌≡◌, ◌∙◌, ℕ, Bool, true, false, List, [], ◌∷◌, length, Some, refl, sym, ap, arith}
 use Rattle.std.specs.Prelude.{All, codes}
 use Rattle.std.proofs.lemmas.List.{length-map}

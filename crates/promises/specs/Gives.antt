@@ -27,16 +27,18 @@ use Rattle.commands.specs.LogRead.{test_blocks, test_log, test_rows, walk_log, w
 use Rattle.command_line.specs.declared.command.Command.TheVariants.{Chain, Ident, Device, Cover, Svf, Walk, Make, Diagnose, Groups, Batch}
 use Rattle.command_line.specs.Words.{Text, ChainNames, BoardNames, Command}
 
--- the names of the files of a chain, each name in the field for its kind of file
+-- the names of the files of a chain, each name in the field for its kind of file; the other fields are empty
 abbrev pub of_chain : ChainNames → Names
 of_chain names = record { log = []; chain = names.chain; nets = []; bsdl = names.bsdl }
 
--- the names of the files of a board and of its logs, each name in the field for its kind of file
+-- the names of the files of a board and of its logs, each name in the field for its kind of file; `log` is
+-- empty if there are no logs
 abbrev pub of_board : Text → BoardNames → Names
 of_board log names = record { log = log; chain = names.chain; nets = names.nets; bsdl = names.bsdl }
 
--- The summary of a board: the numbers of its devices, nets and covered nets, and of the passes, scans and bytes of its test. If there are
--- more bytes than the largest 64-bit number, the summary has this number instead.
+-- The summary of a board: the numbers of the board's devices, nets and covered nets, and of the passes, scans
+-- and bytes of the board's test. A net is covered if the test observes it. If there are more bytes than the
+-- largest 64-bit number, the summary has this number instead.
 abbrev pub summary : RawBoard → Text
 summary board =
     line_of
@@ -45,13 +47,15 @@ summary board =
     ∷ codes " PASSES " ∷ decimal (length (passes_of board)) ∷ codes " SCANS " ∷ decimal (length (svf_scans board))
     ∷ codes " BYTES " ∷ decimal (min (length (board_text board)) 18446744073709551615) ∷ [])
 
--- `outcome` is the text of a value for which `IsFound` holds, or the line for a fault for which it holds
+-- `outcome` is the text of a value for which `IsFound` holds, or the line for a fault for which `IsFound`
+-- holds
 abbrev pub Finds : {A : Type 0} → (Result A InputFault → Type 0) → (A → Text) → Names → Result Text Text → Type 0
 Finds {A} IsFound text_of names (Ok text) = (value : A) × IsFound (Ok value) × (text ≡ text_of value)
 Finds {A} IsFound text_of names (Err line) = (fault : InputFault) × IsFound (Err fault) × (line ≡ input_fault_line names fault)
 
--- `outcome` is the text that says what the logs show for the board that the other files denote. If the other files or the logs have a
--- fault, it is the line for their first fault.
+-- `outcome` is the text that says what the logs show for the board that the other files denote. If the other
+-- files have a fault, it is the line for the first fault of these files. Otherwise, if the logs have a fault,
+-- it is the line for the first fault of the logs.
 abbrev pub FindsLogs : {L E A : Type 0} → (Text → RawBoard → Result L E)
     → (RawBoard → L → A → Type 0) → (RawBoard → L → A → Text) → (RawBoard → E → Text) → Names → Text
     → Text → Text → List Text → Result Text Text → Type 0
@@ -62,7 +66,9 @@ FindsLogs {L} {E} {A} read IsFound text_of line_of names logs chain nets bsdl (E
     Finds (IsBoardRead chain nets bsdl) board_text names (Err line)
     ⊎ ((board : RawBoard) × Denotes chain nets bsdl board × (fault : E) × (read logs board ≡ Err fault) × (line ≡ line_of board fault))
 
--- the files of a command give this outcome
+-- The files of a command give this outcome if `texts` are the texts of these files, in order. There is no
+-- outcome if a log, a chain file or a net file is missing, or if there is not exactly one text for `Device`.
+-- `Make` ignores the texts.
 abbrev pub GivesOutcome : Command → List Text → Result Text Text → Type 0
 GivesOutcome (Chain names) (chain ∷ bsdl) outcome = Finds (AreChainLengths chain bsdl) chain_text (of_chain names) outcome
 GivesOutcome (Ident names) (chain ∷ bsdl) outcome = Finds (AreIdents chain bsdl) ident_text (of_chain names) outcome

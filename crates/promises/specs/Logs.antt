@@ -20,8 +20,8 @@ pub record HoldsLog (board : RawBoard) (scans : List RowScan) (text : Text) (row
   pub lines : map (bits_of_line (data_bits board)) (row_lines text) ≡ map Some rows
   pub shape : HasShape board scans rows
 
--- The title is the word BOARD and the block's id, which satisfies the word rule (`is_word`). The lines below it, as a text of their own,
--- hold a log of the board's test.
+-- The title is the word BOARD and the block's id, which satisfies the word rule (`is_word`). The lines below
+-- the title, as a text of their own, hold a log of the board's test.
 pub record HoldsBoardBlock (board : RawBoard) (text : BlockText) (block : Block) : Type 0 where
   pub title : words_of text.title ≡ codes "BOARD" ∷ block.id ∷ []
   pub id : is_word block.id ≡ true
@@ -35,8 +35,8 @@ pub record HoldsBoardBlocks (board : RawBoard) (text : Text) (blocks : List Bloc
   pub cut : IsCutTo text front texts
   pub each : EachPair (HoldsBoardBlock board) texts blocks
 
--- For the board that files denote, a text is read as a log of the board's test, as a log of its walking test or as a batch if and only if
--- the lines of the text hold such a log or batch.
+-- For the board that files denote, a text is read as a log of the board's test, as a log of the board's
+-- walking test or as a batch if and only if the lines of the text hold such a log or batch.
 pub record LinesAreRead : Type 0 where
   pub test : (chain nets : Text) (texts : List Text) (board : RawBoard) (log : Text)
       (rows : List (List Bool)) → Denotes chain nets texts board

@@ -81,15 +81,16 @@ ListsDevice run =
 -- `cover`: the text has the number of nets and the number of covered nets, that is, nets that some safe
 -- setting observes. It lists each other net, with the reason. It also lists each driver and receiver of a
 -- covered net that no safe setting tests, and each pair of covered nets that no safe setting observes
--- together.
+-- together. A safe setting is a set of controls that a test may enable together.
 abbrev pub ListsCover : Run → Type 0
 ListsCover run =
     (names : BoardNames) (chain nets : Text) (bsdl : List Text) (board : RawBoard)
     → RunsOn run (Cover names) (chain ∷ nets ∷ bsdl) → Denotes chain nets bsdl board →
     PrintsText run (Cover names) (λ text. (text ≡ cover_text board) × IsBoard board × IsCoverList board text)
 
--- `svf`: the text has a meaning. Run on the board from any state, it is quiet (`IsQuiet`) after its reset under every fault set, so it
--- never enables two boundary-scan drivers on one net. It passes without faults, and fails under every nonempty set of observable faults.
+-- `svf`: the text has a meaning. Run on the board from any state, it is quiet (`IsQuiet`) after its reset
+-- under every fault set, so it never enables two boundary-scan drivers on one net. It passes without faults,
+-- and fails under every nonempty fault set that is observable (`IsObservable`).
 abbrev pub TestsBoard : Run → Type 0
 TestsBoard run =
     (names : BoardNames) (chain nets : Text) (bsdl : List Text) (board : RawBoard)
@@ -133,8 +134,8 @@ pub record IsDiagnosed (board : RawBoard) (log : List (List Bool)) (pass : Bool)
   pub exactly : (single : Single) → Contains faults single ↔ (IsSingle board single × Explains board single log)
   pub in_order : AllPairs SinglePrecedes faults
 
--- `diagnose`: if the file holds a log of the board's test, the printed text says whether the log passes, and lists exactly the single
--- faults that explain it.
+-- `diagnose`: if the file holds a log of the board's test, the printed text says whether the log passes, and
+-- lists exactly the single faults that explain the log. The test satisfies `HasResponses`.
 abbrev pub DiagnosesLog : Run → Type 0
 DiagnosesLog run =
     (workers : ℕ) (names : LogNames) (log chain nets : Text) (bsdl : List Text)
@@ -152,8 +153,9 @@ RestsOnLog run =
     RunsOn run (Diagnose workers names) (log ∷ chain ∷ nets ∷ bsdl) → (run.status ≡ Done) ⊎ (run.status ≡ WriteFault) →
     (board : RawBoard) × Denotes chain nets bsdl board × (rows : List (List Bool)) × HoldsLog board (svf_row_scans board) log rows
 
--- `batch`: if the file holds blocks with logs of the board's test, the printed text has a title and a diagnosis for
--- each block, in the order of the blocks. The diagnosis of a block depends on the block's log alone.
+-- `batch`: if the file holds blocks with logs of the board's test, the printed text has a title and a
+-- diagnosis for each block, in the order of the blocks. The diagnosis of a block depends on the block's log
+-- alone. The test satisfies `HasResponses`.
 abbrev pub DiagnosesBlocks : Run → Type 0
 DiagnosesBlocks run =
     (workers : ℕ) (names : LogNames) (logs chain nets : Text) (bsdl : List Text) (board : RawBoard) (blocks : List Block) →
@@ -188,7 +190,8 @@ FindsGroups run =
     ((groups : List (List ℕ)) (one other : List (List Bool)) → Explain board one groups →
     Explain board other groups → AgreeOn board (walk_row_list board) one other))
 
--- `groups` prints a text, in whole or in part, only if the files denote a board and the log is a log of its walking test.
+-- `groups` prints a text, in whole or in part, only if the files denote a board and the log is a log of the
+-- board's walking test.
 abbrev pub RestsOnWalkLog : Run → Type 0
 RestsOnWalkLog run =
     (names : LogNames) (log chain nets : Text) (bsdl : List Text) →
@@ -254,9 +257,10 @@ FindsOutcome run =
     × ((command : Command) (texts : List Text) → RunsOn run command texts
     → (outcome : Result Text Text) × GivesOutcome command texts outcome)
 
--- The status is ReadFault only if the words ask for a command and a read of one of its files failed. The output takes
--- nothing, and the notes take the line for this file. The run asked for the files before this file, and for no file
--- after it. If the texts of the store are known, the store holds the files before it.
+-- The status is ReadFault only if the words ask for a command and a read of one of its files failed. At
+-- ReadFault, the output takes nothing, and the notes take the line for this file. The run asked for the files
+-- before this file, and for no file after it. If the texts of the store are known, the store holds the files
+-- before it.
 abbrev pub TellsUnread : Run → Type 0
 TellsUnread run =
     run.status ≡ ReadFault → PutsNothing run

@@ -38,7 +38,8 @@ pub record Run : Type 0 where
 abbrev pub run_of : List (String Global) → Ends → Ends → Status → Run
 run_of words old new status = record { words = map string_bytes words; old = old; new = new; status = status }
 
--- the ends of a run whose store has these texts and counts, and whose output and notes are in memory
+-- the ends of a run whose output and notes are in memory; the store has these texts, was asked for these
+-- names, and has these numbers of failed reads
 abbrev pub ends_of : Held → List Text → (Text → ℕ) → MemSink → MemSink → Ends
 ends_of held asked unread out notes =
     record {
@@ -118,7 +119,8 @@ abbrev pub Holds : Held → Text → Text → Type 0
 Holds None name text = ⊥
 Holds (Some held) name text = held name ≡ Some text
 
--- the store holds a text for each of these files, and no text is too long
+-- `texts` are the texts that the store holds for these files, in the order of the files, and no text is too
+-- long
 abbrev pub HoldsEach : Held → List Wanted → List Text → Type 0
 HoldsEach held [] [] = Unit {0}
 HoldsEach held [] (text ∷ texts) = ⊥
@@ -144,7 +146,7 @@ RunsOn run command texts = HasWordsOf run command × HoldsEach run.old.held (fil
 abbrev pub NoReadFailed : Run → Command → Type 0
 NoReadFailed run command = (name : Text) → Contains (names_in_command command) name → Rose (run.old.unread name) (run.new.unread name) → ⊥
 
--- if no read failed, the run returns this status or `NoMemory`
+-- if no read of a file of the command failed, the run returns this status or `NoMemory`
 abbrev pub EndsWith : Run → Command → Status → Type 0
 EndsWith run command status = NoReadFailed run command → (run.status ≡ status) ⊎ (run.status ≡ NoMemory)
 

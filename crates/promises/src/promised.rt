@@ -50,7 +50,7 @@ impl Desk {
     /// Runs a command line. Promise: `cover` prints the number of nets and the number of nets that some safe
     /// setting observes, the covered nets. It lists each other net, with the reason. It also lists each
     /// driver and receiver of a covered net that no safe setting tests, and each pair of covered nets that no
-    /// safe setting observes together.
+    /// safe setting observes together. A safe setting is a set of controls that a test may enable together.
     pub fn cover<R: Threads + Sync, G: Gate>(
         &mut self,
         rt: &R,
@@ -69,15 +69,17 @@ impl Desk {
         self.run(rt, words, gate)
     }
 
-    /// Runs a command line. Promise: `walk` prints a test that is harmless to the board.
+    /// Runs a command line. Promise: `walk` prints a test that is harmless to the board. The test passes
+    /// without faults. After its reset, it never enables two boundary-scan drivers on one net, whatever
+    /// faults the board has.
     pub fn walk<R: Threads + Sync, G: Gate>(&mut self, rt: &R, words: &[String], gate: &G) -> Status
         ensures { WalksBoard (desk_run words.now self.old self.new result) }
     {
         self.run(rt, words, gate)
     }
 
-    /// Runs a command line. Promise: `diagnose` lists exactly the single faults that explain a log,
-    /// and prints only if the files denote a board and the log file holds a log of its test.
+    /// Runs a command line. Promise: `diagnose` lists exactly the single faults that explain a log, and
+    /// prints only if the files denote a board and the log file holds a log of the board's test.
     pub fn diagnose<R: Threads + Sync, G: Gate>(
         &mut self,
         rt: &R,
@@ -91,9 +93,9 @@ impl Desk {
         self.run(rt, words, gate)
     }
 
-    /// Runs a command line. Promise: `batch` writes the title and the diagnosis of each block, and
-    /// prints only if the files denote a board and the batch holds logs of its test. The diagnosis
-    /// of a block depends on the block's log alone.
+    /// Runs a command line. Promise: `batch` writes the title and the diagnosis of each block, and prints
+    /// only if the files denote a board and the batch holds logs of the board's test. The diagnosis of a
+    /// block depends on the block's log alone.
     pub fn batch<R: Threads + Sync, G: Gate>(
         &mut self,
         rt: &R,
@@ -107,9 +109,9 @@ impl Desk {
         self.run(rt, words, gate)
     }
 
-    /// Runs a command line. Promise: `groups` names the set of groups that explains a log, or says
-    /// that no set does, and prints only if the files denote a board and the log file holds a log
-    /// of its walking test.
+    /// Runs a command line. Promise: `groups` names the set of groups that explains a log, or says that no
+    /// set does, and prints only if the files denote a board and the log file holds a log of the board's
+    /// walking test.
     pub fn groups<R: Threads + Sync, G: Gate>(
         &mut self,
         rt: &R,

@@ -227,8 +227,9 @@ module _ (board : RawBoard) (rules : IsBoard board) (walk : List Ctl) (setting :
   abbrev places : BoardRules board
   places = board_rules board rules
 
-  -- The setting is safe, so a driver that it enables is not one-sided. If the driver's own cell were its control cell, it would be a
-  -- switching driver, but the setting holds no control of a switching driver.
+  -- The setting is safe, so a driver that it enables is not one-sided. A one-sided driver is a driver whose
+  -- own cell is its control cell and which is not a switching driver. If the driver's own cell were its
+  -- control cell, it would be a switching driver, but the setting holds no control of a switching driver.
   not_own : (n : ℕ) (net : Net) (d : ℕ) (pin : NetPin) (at : PinAt) (entry : Cell)
       → slice_get board.nets n ≡ Some net → slice_get net.pins d ≡ Some pin → pin.at ≡ Some at →
       entry_at board at ≡ Some entry → (control : Control) → entry.ctl ≡ Some control

@@ -105,7 +105,7 @@ module _ (log : List (List Bool)) (cells : List NetCells) (long : length cells �
       (λ k p f. is_same_of_same (bit_in log j p) (get_or log_labels i 0 == get_or log_labels j 0)
       (each j i p c less e (has_at c.compared k p f)))
 
-  -- The label of a net is the place of the first net with this label.
+  -- If the log satisfies `ShowsLabels`, the label of a net is the place of the first net with this label.
   pub own_label : ShowsLabels log log_labels cells → (i k : ℕ) → slice_get log_labels i ≡ Some k
       → (k ≤ i) × (slice_get log_labels k ≡ Some k)
   own_label shows i k e =

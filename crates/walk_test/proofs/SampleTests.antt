@@ -136,7 +136,7 @@ pulled_down = board (Described os ∷ Described rcv1 ∷ Described drv ∷ Descr
 down_pass : slice_get (passes_of pulled_down) 0 ≡ Some (record { part = 0; cell = 0 } ∷ [])
 down_pass = refl
 
--- the driver is a switching driver, so the walk setting leaves out its control
+-- the driver is a switching driver, so the walk setting leaves out the control of the driver
 down_setting : walk_setting pulled_down ≡ Some []
 down_setting = refl
 

@@ -44,7 +44,7 @@ use Rattle.walk_test.proofs.ExplainLemmas.{ShowJoined, shaped, shows_explained}
 use Rattle.walk_test.proofs.LawLemmas.{setting_is, shown_by}
 use Rattle.walk_test.proofs.LabelLemmas.{first_low, first_holds, first_same, label_is, first_compared, each_shows, shows_each, own_label, IsDecided, shows_decided, are_groups, joined_labels}
 
--- driver cells by which the setting observes nets; they include the driver cells of all these nets
+-- driver cells by which the setting observes nets; they include the driver cells of all nets in `nets`
 record DriversOf (board : RawBoard) (walk : List Ctl) (nets : List ℕ) : Type 0 where
   drivers : List DriverCell
   only : (d : DriverCell) → Has drivers d → IsDriverCell board walk d

@@ -1,4 +1,5 @@
--- Lemmas about the walk setting. It is safe, all its controls are useful, and it holds no control of a switching driver.
+-- Lemmas about the walk setting. It is safe, all its controls are useful, and it holds no control of a
+-- switching driver. A control is useful if it is safe alone and enables a tested driver.
 use Rattle.std.proofs.Common.{◌≡◌, ◌⊎◌, inl, inr, Result, Ok, Err, ℕ, zero, suc, ◌+◌, ◌<◌, ◌==◌, Bool, true, false, cond, not, ◌&&◌, ◌||◌, List, [], ◌∷◌, ◌++◌, length, get_or, take, fold, map, Option, Some, None, refl, sym, ◌∙◌, ap, subst}
 use Rattle.std.specs.Prelude.{slice_get, filter, option_map, option_and_then, IfOk}
 use Rattle.std.specs.List.{list_any, flat_map}

@@ -1,4 +1,5 @@
--- The text of a set of groups. Each group consists of walk nets that are shorted together.
+-- The text of a set of groups. Each group consists of walk nets that are shorted together. The walk nets are
+-- the nets that the walking test observes.
 use Rattle.board_defs.specs.Pins.{name_of, net_name}
 use Rattle.std.specs.Prelude.{ℕ, List, [], ◌∷◌, ◌++◌, length, codes, decimal, Option, Some, None, slice_get}
 use Rattle.std.specs.List.{flat_map}

@@ -1,5 +1,5 @@
--- Groups of walk nets, and the set of groups that explains a log of the walking test. A group consists of walk nets that are shorted
--- together.
+-- Groups of walk nets, and the set of groups that explains a log of the walking test. A group consists of
+-- walk nets that are shorted together. The walk nets are the nets that the walking test observes.
 use Rattle.std.specs.Prelude.{ℕ, suc, ◌<◌, ◌≤◌, ◌==◌, Bool, if◌then◌else◌, List, [], ◌∷◌, length, Option, Some, None, slice_index_or, All, AllPairs, Contains, MatchOption}
 use Rattle.std.specs.List.{list_any}
 use Rattle.board_defs.specs.declared.board.RawBoard.{RawBoard}
@@ -11,7 +11,7 @@ use Rattle.walk_test.specs.WalkTest.{walk_nets, walk_row_list}
 abbrev pub Rise : List ℕ → Type 0
 Rise numbers = AllPairs (λ a b. a < b) numbers
 
--- the lowest net of a group, which is the group's first net
+-- the lowest net of a group, which is the group's first net; 0 for a group without nets
 abbrev pub least_of : List ℕ → ℕ
 least_of group = slice_index_or group 0 0
 
@@ -37,8 +37,8 @@ abbrev pub or_shorts : List (List ℕ) → FaultSet
 or_shorts groups = record no_faults { short = group_of groups; kind = λ k. Or }
 
 -- `groups` is a set of groups of the board, and it explains the log: the log has the shape of a log of the
--- walk text, and in every run of the text with these shorts, each compared bit that an SDR statement captures
--- is the log's bit.
+-- walking test, and in every run of the test with the Or shorts of these groups and no other fault, each
+-- compared bit that an SDR statement captures is the log's bit.
 pub record Explain (board : RawBoard) (log : List (List Bool)) (groups : List (List ℕ)) : Type 0 where
   pub are : AreGroups board groups
   pub explained : ExplainedBy board (or_shorts groups) (walk_row_list board) log
@@ -51,6 +51,6 @@ AreFound board log found = MatchOption found ((groups : List (List ℕ)) → Exp
 abbrev pub IsGroupOnBoard : RawBoard → List ℕ → Type 0
 IsGroupOnBoard board group = All (λ n. n < length board.nets) group
 
--- the nets of each group are on the board, if there are groups
+-- if a list of groups is given, the nets of each group are on the board
 abbrev pub AreNamed : RawBoard → Option (List (List ℕ)) → Type 0
 AreNamed board groups = MatchOption groups (Unit {0}) (λ list. All (IsGroupOnBoard board) list)

@@ -1,6 +1,6 @@
 -- The laws of the walking test. The walk setting is the first pass of the board's test without the controls
 -- of switching drivers. A switching driver is enabled by its own cell, on an unguarded net that is pulled to
--- its disable value.
+-- the driver's disable value. A net is guarded if, for example, it carries a supply.
 use Rattle.std.specs.Prelude.{◌≡◌, ℕ, Bool, ◌&&◌, not, List, length, Some, slice_get}
 use Rattle.board_defs.specs.declared.board.RawBoard.{RawBoard}
 use Rattle.board_defs.specs.declared.board.Ctl.{Ctl}
@@ -15,7 +15,7 @@ use Rattle.walk_test.specs.WalkTest.{switches_some, walk_setting, walk_row_list,
 use Rattle.walk_test.specs.Groups.{AreGroups, or_shorts, Explain}
 use Rattle.walk_test.specs.Tables.{IsWalkOf, count_walk_scans}
 
--- the walk setting is safe
+-- the walk setting, if there is one, is safe
 abbrev pub WalkSafe : Type 0
 WalkSafe = (board : RawBoard) (walk : List Ctl) → IsBoard board → walk_setting board ≡ Some walk → IsSafe board (holds walk)
 
@@ -25,11 +25,12 @@ WalkKept =
     (board : RawBoard) (pass walk : List Ctl) (c : Ctl) → slice_get (passes_of board) 0 ≡ Some pass
     → walk_setting board ≡ Some walk → holds walk c ≡ (holds pass c && not (switches_some board c))
 
--- The walk text passes on the board without faults. Under every fault set, no two drivers conflict and unused cells keep their safe values.
+-- The text of the walking test passes on the board without faults. Under every fault set, no two drivers
+-- conflict and unused cells keep their safe values.
 abbrev pub WalkHarmless : Type 0
 WalkHarmless = (board : RawBoard) → IsBoard board → IsHarmless board (board_walk_text board)
 
--- the shorts of groups are faults of the board
+-- the Or shorts of a set of groups are a fault set of the board
 abbrev pub ShortsAreFaults : Type 0
 ShortsAreFaults = (board : RawBoard) (groups : List (List ℕ)) → IsBoard board → AreGroups board groups → IsFaultSet board (or_shorts groups)
 

@@ -28,8 +28,9 @@ mask_of board row = mask_bits (joined (row_bits board (record { now = quiet_row;
 abbrev pub still_row : List Ctl → TestRow
 still_row walk = record { setting = holds walk; carried = λ n. Some false }
 
--- `cells` has the positions of the cells of walk net n: the cell of the driver by which the setting observes the net, and the net's
--- compared cells. These are the INPUT, CLOCK and BIDIR cells of the net's receivers on other pins. There is at least one compared cell.
+-- `cells` has the positions of the cells of walk net n: the cell of the driver by which the setting observes
+-- the net, and the net's compared cells. These are the INPUT, CLOCK and BIDIR cells of the net's receivers on
+-- pins other than the driver's pin. There is at least one compared cell.
 pub record AreNetCells (board : RawBoard) (walk : List Ctl) (n : ℕ) (cells : NetCells) : Type 0 where
   pub net : Net
   pub is_net : slice_get board.nets n ≡ Some net

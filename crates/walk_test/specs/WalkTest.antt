@@ -1,6 +1,6 @@
 -- The walking test of a board: its setting, its nets and its scans. A switching driver, which the setting
 -- leaves out, is a driver whose own cell is also its control cell, on an unguarded net that is pulled to the
--- driver's disable value.
+-- driver's disable value. A net is guarded if, for example, it carries a supply.
 use Rattle.std.specs.Prelude.{ℕ, Bool, false, not, ◌&&◌, List, [], filter, length, Option, Some, None, option_map, slice_get}
 use Rattle.std.specs.List.{list_any, range_with_len}
 use Rattle.board_defs.specs.declared.board.NetPin.{NetPin}

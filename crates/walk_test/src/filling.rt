@@ -131,9 +131,10 @@ impl<'a> RowFiller<'a> {
     }
 }
 
-/// Fills the rows with scan `k` of the walking test, counted from 0, and returns its shape. `k` must be below the
-/// number of scans, and `tables` must be made for the board. Each row must have room for a scan of instructions and for
-/// a scan of data.
+/// Fills the rows with scan `k` of the walking test, counted from 0, and returns the scan's shape (whether it
+/// is an instruction scan, and whether it compares a bit). `k` must be below the number of scans, and
+/// `tables` must be made for the board. Each row must have room for a scan of instructions and for a scan of
+/// data.
 pub fn fill_scan(board: &Board, tables: &WalkTables, k: u64, rows: &mut ScanRows) -> Shape
     requires walk { IsWalkOf board.now tables.now }
     requires scan { k < count_walk_scans tables.now }

@@ -1,10 +1,11 @@
-// A group of walk nets that are shorted together.
+// A group of walk nets that are shorted together. The walk nets are the nets that the walking test observes.
 ghost use Rattle.std.specs.Prelude.{◌≡◌};
 ghost use Rattle.walk_test.specs.Groups.{Rise};
 
 use std::marker::Model;
 
-/// Walk nets that are shorted together. Its value in contracts is the list of their numbers, in ascending order.
+/// A group of walk nets that are shorted together. The value of a group in contracts is the list of the
+/// numbers of its nets, in ascending order.
 #[derive(Debug, Drop)]
 pub struct Group {
     nets: Vec<u32>,

@@ -56,8 +56,8 @@ fn groups_among(alloc: Global, lists: Vec<Items<u32>>) -> Result<Vec<Group>, All
     Ok(groups)
 }
 
-// Returns the groups of nets with equal labels. Each label is the place of a net. The nets must be in ascending order,
-// and there must be one label for each net.
+// Returns the groups of nets with equal labels. The label of a net is the place of a net in `nets`. Any other
+// label is ignored. The nets must be in ascending order, and there must be one label for each net.
 fn groups_by(alloc: Global, nets: &[u32], labels: &[u32]) -> Result<Vec<Group>, AllocError>
     requires rise { Rise nets.now }
     requires labels { length labels.now ≡ length nets.now }

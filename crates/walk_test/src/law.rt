@@ -1,6 +1,7 @@
 //! Laws of the walking test. Each law is the contract of a function that does nothing. The walk setting is
 //! the first pass of the board's test without the controls of switching drivers. A switching driver is
-//! enabled by its own cell, on an unguarded net that is pulled to its disable value.
+//! enabled by its own cell, on an unguarded net that is pulled to the driver's disable value. A net is
+//! guarded if, for example, it carries a supply.
 ghost use Rattle.std.specs.Prelude.{ℕ, Bool, List, Option};
 ghost use Rattle.board_defs.specs.declared.board.RawBoard.{RawBoard};
 ghost use Rattle.board_defs.specs.BoardRules.{IsBoard};
@@ -12,7 +13,7 @@ use tap_defs::board_law::{
     logs_by_rows, one_log, passes_harmless, rows_compared, scans_in_turn, walks_harmless,
 };
 
-/// The walk setting is safe.
+/// The walk setting is safe, if the board has one.
 pub fn walk_safe()
     ensures { WalkSafe }
 {
@@ -39,7 +40,8 @@ pub fn scans_counted()
     ensures { ScansCounted }
 {}
 
-/// Each set of groups is a set of faults of the board. It explains some log, and any two logs that it explains agree at every compared bit.
+/// The Or shorts of each set of groups are a fault set of the board. Each set of groups explains some log,
+/// and any two logs that one set explains agree at every compared bit.
 pub fn groups_respond()
     ensures faults { ShortsAreFaults }
     ensures some { GroupsRespond }

@@ -1,4 +1,5 @@
 // Writes the lines of the text of a set of groups. A group consists of walk nets that are shorted together.
+// The walk nets are the nets that the walking test observes.
 ghost use Rattle.std.specs.Prelude.{◌≡◌, [], ◌∷◌, codes};
 ghost use Rattle.line_printer.specs.Prints.{Prints, line_of};
 ghost use Rattle.walk_test.specs.GroupText.{size_line, group_count_line};

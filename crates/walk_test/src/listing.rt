@@ -1,4 +1,5 @@
-// Writes the text of a set of groups. Each group consists of walk nets that are shorted together.
+// Writes the text of a set of groups. Each group consists of walk nets that are shorted together. The walk
+// nets are the nets that the walking test observes.
 ghost use Rattle.board_defs.specs.Pins.{net_name};
 ghost use Rattle.std.specs.Prelude.{◌≡◌, ◌++◌, [], length, option_map};
 ghost use Rattle.std.specs.List.{flat_map};

@@ -29,7 +29,8 @@ fn push_beside(positions: &mut Vec<u32>, reader: ReaderCell, place: u32) -> Resu
     Ok(())
 }
 
-// Returns the positions of the cells in `readers` that read a pin other than the pin at `place`.
+// Returns the positions of the cells in `readers` that read a pin other than the pin at `place`, an index in
+// the net's list of pins.
 fn positions_beside(
     alloc: Global,
     place: u32,
@@ -179,10 +180,11 @@ fn blank_rows(alloc: Global, board: &Board) -> Result<WalkRows, AllocError>
     Ok(WalkRows { still, mask })
 }
 
-/// Returns the parts of a walk, made from the pins of its board's nets and the first pass of its test. `pins` must be
-/// the pins of the board's nets, and the first of `passes` must be the first pass of the board's test. The rows have
-/// room, but are still empty: `fill_rows` fills them from the plan. All memory other than the plan's is allocated here.
-/// So nothing can fail after `Walk::of` has made the plan, and no return of an error has to drop a plan.
+/// Returns the parts of a board's walk, made from the pins of the board's nets and the first pass of the
+/// board's test. `pins` must be the pins of the board's nets, and the first of `passes` must be the first
+/// pass of the board's test. The rows have room, but are still empty: `fill_rows` fills them from the plan.
+/// All memory other than the plan's is allocated here. So nothing can fail after `Walk::of` has made the
+/// plan, and no return of an error has to drop a plan.
 pub fn walk_parts(
     alloc: Global,
     board: &Board,

@@ -57,10 +57,11 @@ fn are_same_rows(log: &WalkLog<'_>, j: u32, other: u32) -> bool
     log.row(j).is_alike(log.row(other).digits)
 }
 
-// Reads row `j` of the log, in which the net with position `at` carries 1. Returns whether the row agrees with the
-// earlier rows. If the position reads 1 in an earlier row, row `j` must read the same as that row. Otherwise a group
-// must start in row `j`, and its positions then have row `j` in `firsts`. `j` must be a row of the log. `firsts` must
-// have an item for each position, which is `none` for a position without a row.
+// Reads row `j` of the log, in which the net whose first compared position is `at` carries 1. Returns whether
+// the row agrees with the earlier rows. If the position reads 1 in an earlier row, row `j` must read the same
+// as that row. Otherwise a group must start in row `j`, and each compared position that reads 1 in this row
+// then has row `j` in `firsts`. `j` must be a row of the log. `firsts` must have an item for each position,
+// which is `none` for a position without a row.
 fn read_row(log: &WalkLog<'_>, firsts: &mut [u32], at: u32, j: u32, none: u32) -> bool
     requires row { j < length log.now.log }
     requires firsts { length firsts.old ≡ length log.now.mask }

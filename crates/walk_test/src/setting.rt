@@ -1,6 +1,6 @@
 // The walk setting: the first pass of a board's test, but without the controls of switching drivers. A
 // switching driver is a driver whose own cell is also its control cell, on an unguarded net that is pulled to
-// the driver's disable value.
+// the driver's disable value. A net is guarded if, for example, it carries a supply.
 ghost use Rattle.std.specs.Prelude.{◌≡◌, ◌<◌, ◌^◌, ◌++◌, ◌∷◌, [], if◌then◌else◌, filter, not, length, slice_get, Some, IfOk, OnOk};
 ghost use Rattle.std.specs.Option.{option_to_list};
 ghost use Rattle.board_defs.specs.Passes.{passes_of};

@@ -21,8 +21,8 @@ use tap_defs::{ScanRows, Shape};
 ///
 /// The walk setting is the setting of the first pass of the board's test, but without the controls of
 /// switching drivers. A switching driver is enabled by its own cell, on an unguarded net that is pulled to
-/// its disable value. The walk nets are the nets that the walk setting observes. A board without a pass has
-/// no walk nets.
+/// the driver's disable value. A net is guarded if, for example, it carries a supply. The walk nets are the
+/// nets that the walk setting observes. A board without a pass has no walk nets.
 #[derive(Drop)]
 pub struct Walk {
     pub(crate) tables: WalkTables,
@@ -40,9 +40,9 @@ impl Model for Walk {
 }
 
 impl Walk {
-    /// Returns the walk of a board, made from the first pass of its test, if there is a pass. The first of `passes`
-    /// must be this pass. Later passes are ignored. If a caller has the pins of the board's nets already, it calls `of`
-    /// instead.
+    /// Returns the walk of a board, made from the first pass of the board's test, if there is a pass. The
+    /// first of `passes` must be this pass. Later passes are ignored. If a caller has the pins of the board's
+    /// nets already, it calls `of` instead.
     pub fn new(alloc: Global, board: &Board, passes: &[Setting]) -> Result<Walk, AllocError>
         requires { slice_get passes.now 0 ≡ slice_get (passes_of board.now) 0 }
         ensures { IfOk result (λ walk. IsWalkOf board.now walk) }

@@ -36,7 +36,9 @@ abbrev pub in_block : ℕ → LogAnswer → Result (List (List Bool)) BatchFault
 in_block board (Ok log) = Ok log
 in_block board (Err fault) = Err (Inner board fault)
 
--- The fault of block `board`, given the fault of the block's own text. `before` lines of the whole text come before the own text.
+-- The fault of block `board`, given the fault of the block's own text. `before` lines of the whole text come
+-- before the own text. If rows are missing, the fault keeps the number of rows found. Lack of memory becomes
+-- `Memory`.
 abbrev pub moved_inner : ℕ → ℕ → LogFault → BatchFault
 moved_inner board before (Digit n) = Inner board (Digit (before + n))
 moved_inner board before (Length n) = Inner board (Length (before + n))

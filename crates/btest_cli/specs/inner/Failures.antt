@@ -44,7 +44,7 @@ unput_line names (unput.Batch rows fault) = batch_fault_line names.log rows faul
 unput_line names unput.Write = write_line
 unput_line names unput.Memory = memory_line
 
--- the sink took a prefix of the text that a request gives, and its count of faults rose
+-- the sink took a prefix of the text that a request gives, and the sink's count of faults rose
 pub record IsSinkCut (names : Names) (request : Request) (old new : Shown) : Type 0 where
   pub rose : Rose old.faults new.faults
   pub text : Text

@@ -12,6 +12,7 @@ pub record EachStoredHasRoom (Fits : ℕ → Type 0) (rows : StoredRows) : Type 
   pub tdo : Fits rows.tdo.room
   pub mask : Fits rows.mask.room
 
--- the rows hold scan `k` of a plan's test, and `shape` is its shape
+-- the rows hold scan `k` of a plan's test, and `shape` is the scan's shape: whether it is an instruction
+-- scan, and whether it compares a bit
 abbrev pub HoldScan : RawBoard → PlanTables → ℕ → Shape → StoredRows → Type 0
 HoldScan board plan k shape rows = FillsScan board plan.passes plan.width k shape rows.tdi.bits rows.tdo.bits rows.mask.bits

@@ -13,7 +13,7 @@ abbrev pub rows_of : Option KeptPass → List ComparedRow
 rows_of None = []
 rows_of (Some pass) = pass.rows
 
--- the kept rows of pass x
+-- the kept rows of pass x, or no rows if pass x is not kept
 abbrev pub rows_of_kept : List KeptPass → ℕ → List ComparedRow
 rows_of_kept kept x = rows_of (slice_get kept x)
 
@@ -22,7 +22,7 @@ abbrev pub drivers_of_kept : Option KeptPass → List (Option EnabledDriver)
 drivers_of_kept None = []
 drivers_of_kept (Some pass) = pass.drivers
 
--- the kept drivers of pass x
+-- the kept drivers of pass x, or no drivers if pass x is not kept
 abbrev pub kept_drivers : List KeptPass → ℕ → List (Option EnabledDriver)
 kept_drivers kept x = drivers_of_kept (slice_get kept x)
 
@@ -39,7 +39,8 @@ abbrev pub is_code_source : Source → Bool
 is_code_source (Code code) = true
 is_code_source (Fixed bit) = false
 
--- true if the driver's cell carries the bits of the net's code, that is, if the pass observes the net
+-- true if the driver's cell carries the bits of the net's code, that is, if the pass observes the net (false
+-- if there is no driver)
 abbrev pub observes_coded : Option EnabledDriver → Bool
 observes_coded None = false
 observes_coded (Some d) = is_code_source d.source

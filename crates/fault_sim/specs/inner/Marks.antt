@@ -20,7 +20,7 @@ HasExpected board plan log x j at =
     slice_index_or (compared_in board plan x j) at false ≡ true
     → bit_in log (x * plan.width + j) at ≡ slice_index_or (expected_in board plan x j) at false
 
--- the digit that contains this position is not marked
+-- the digit that contains this position is not marked, that is, its mark is 0 or missing
 abbrev pub IsUnmarked : List ℕ → ℕ → Type 0
 IsUnmarked marks at = slice_index_or marks (at / 4) 0 ≡ 0
 

@@ -1,5 +1,6 @@
--- The suspects of a log, as a list that is computed from the nets that differ in the log. A suspect is a place whose fault may explain the
--- log.
+-- The suspects of a log, as a list that is computed from the nets that differ in the log. A suspect is a
+-- place whose fault may explain the log. A net is covered if some safe setting observes it. A safe setting is
+-- a set of controls that the test may enable together.
 use Rattle.std.specs.Prelude.{ℕ, suc, ◌+◌, ◌-◌, ◌*◌, ◌==◌, Bool, false, cond, List, [], ◌∷◌, ◌++◌, length, slice_index_or, slice_get, Option, Some, None}
 use Rattle.std.specs.List.{flat_map, range_with_len}
 use Rattle.board_defs.specs.declared.board.PinRef.{PinRef}
@@ -40,7 +41,8 @@ abbrev pub is_net : ℕ → Option ℕ → Bool
 is_net n None = false
 is_net n (Some net) = net == n
 
--- the places of tested pin i, if it is a pin of net n, and otherwise none
+-- the places of item i of `lists.pins`, which has the tested pins, if this pin is on net n, and otherwise
+-- none
 abbrev pub pin_suspects : FaultLists → ℕ → ℕ → List ℕ
 pin_suspects lists n i = cond (is_net n (pin_net (slice_get lists.pins i))) (two_from (first_open lists + 2 * i)) []
 

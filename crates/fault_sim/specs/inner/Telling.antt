@@ -9,8 +9,10 @@ use Rattle.fault_sim.specs.Planned.{NetInPass, PassOfLog, held_controls}
 use Rattle.fault_sim.specs.inner.NetRows.{net_rows_in}
 use Rattle.fault_sim.specs.inner.Words.{AreShown, AreWordsOf, word_bit}
 
--- `shown` has the rows of the pass in which some compared cell of the net has the bit 1 in the log, and the rows in which some such cell
--- has the bit 0. Cells that read the enabled driver's pin are not counted.
+-- `shown` has the rows of the pass in which some compared cell of the net has the bit 1 in the log, and the
+-- rows in which some such cell has the bit 0. Cells that read the enabled driver's pin are not counted. Both
+-- words are 0 if the pass enables no driver on the net or the net is guarded. No pass observes a guarded net,
+-- for example a net that carries a supply.
 abbrev pub IsShownIn : NetInPass → ShownWords → Type 0
 IsShownIn n shown =
     AreShown (net_rows_in n.pass n.net)

@@ -17,7 +17,8 @@ use Rattle.fault_sim.specs.Effects.{driver_in, plan_readers, code_in}
 abbrev pub coded_nets : PlanTables → ℕ → List ℕ
 coded_nets plan count = filter (λ n. nat_lt 0 (code_in plan n)) (range_with_len 0 count)
 
--- true if a pass observes the net on which it enables this driver
+-- true if a pass that enables this driver observes the driver's net, whose compared cells are given; false if
+-- there is no driver
 abbrev pub observes_by : Option NetDriver → List ReaderCell → Bool
 observes_by None readers = false
 observes_by (Some d) readers = is_read_beside readers d

@@ -53,8 +53,8 @@ AreShownBits rows bit driver word =
     → word_bit word j
     ≡ (nat_lt j rows.width && some_shows rows.log (rows.first + j) bit rows.readers driver)
 
--- `shown` has the rows in which some cell shows 1, and the rows in which some cell shows 0. Cells that read the driver's pin are not
--- counted.
+-- `shown` has the rows in which some cell shows 1, and the rows in which some cell shows 0. Cells that read
+-- the driver's pin are not counted. If there is no driver, both words are 0.
 pub record AreShown (rows : RowsOfNet) (driver : Option ℕ) (shown : ShownWords) : Type 0 where
   pub ones : AreShownBits rows true driver shown.ones
   pub zeros : AreShownBits rows false driver shown.zeros

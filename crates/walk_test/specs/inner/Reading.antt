@@ -102,8 +102,9 @@ pub record IsRowRight (log : List (List Bool)) (mask : List Bool) (k own : ℕ) 
   pub low : first_one log own ≤ k
   pub reads : (at : ℕ) → slice_index_or mask at false ≡ true → bit_in log k at ≡ (first_one log at == first_one log own)
 
--- Each of the first j rows satisfies `IsRowRight` for the first compared position of its net. For each compared position, `firsts` has the
--- first of these rows in which the position reads 1, or `none` if there is no such row.
+-- Each of the first j rows satisfies `IsRowRight` for the first compared position of the net that carries 1
+-- in this row. For each compared position, `firsts` has the first of these rows in which the position reads
+-- 1, or `none` if there is no such row.
 pub record AreRead (log : List (List Bool)) (mask : List Bool) (nets : List NetCells) (none j : ℕ) (firsts : List ℕ) : Type 0 where
   pub right : (k : ℕ) (net : NetCells) → k < j → slice_get nets k ≡ Some net → IsRowRight log mask k (first_at net)
   pub found : (at : ℕ) → slice_index_or mask at false ≡ true → slice_index_or firsts at none ≡ below j none (first_one log at)
@@ -122,7 +123,7 @@ ShowsLabelsIn log labels cells j = (i : ℕ) (net : NetCells) → slice_get cell
 abbrev pub ShowsLabels : List (List Bool) → List ℕ → List NetCells → Type 0
 ShowsLabels log labels cells = (j : ℕ) → j < length cells → ShowsLabelsIn log labels cells j
 
--- the nets with label k, in the order of `nets`
+-- the nets with label k, in the order of `nets`; nets without a label are left out
 abbrev pub members : List ℕ → List ℕ → ℕ → List ℕ
 members [] labels k = []
 members (n ∷ nets) [] k = []

@@ -1,5 +1,6 @@
 -- The controls of switching drivers, as the code finds them pin by pin. A switching driver is enabled by its
--- own cell, on an unguarded net that is pulled to its disable value.
+-- own cell, on an unguarded net that is pulled to the driver's disable value. A net is guarded if, for
+-- example, it carries a supply.
 use Rattle.std.specs.Prelude.{ℕ, ◌==◌, Bool, ◌&&◌, if◌then◌else◌, List, [], fold, Option, Some, None}
 use Rattle.board_defs.specs.declared.device.Control.{Control}
 use Rattle.board_defs.specs.declared.device.Cell.{Cell}
@@ -11,14 +12,15 @@ use Rattle.board_defs.specs.declared.board.Ctl.{Ctl}
 use Rattle.board_defs.specs.Pins.{entry_at, guarded, is_pulled_to}
 use Rattle.board_defs.specs.Settings.{inserted}
 
--- the control of a driver, if the driver's own cell is the control cell and the net is pulled to the disable value
+-- the control of a driver, if the driver's own cell is the control cell and the net is pulled to the disable
+-- value; otherwise, or if the driver has no control, `None`
 abbrev pub own_switch : ℕ → ℕ → Option Bool → Option Control → Option Ctl
 own_switch part num pull None = None
 own_switch part num pull (Some control) =
     if (control.cell == num) && is_pulled_to control.disable pull
     then Some (record { part = part; cell = control.cell }) else None
 
--- like `own_switch`, but takes the driving entry of the pin
+-- like `own_switch`, but takes the driving entry of the pin; `None` if the pin has no driving entry
 abbrev pub entry_switch : ℕ → Option Bool → Option Cell → Option Ctl
 entry_switch part pull None = None
 entry_switch part pull (Some cell) = own_switch part cell.num pull cell.ctl

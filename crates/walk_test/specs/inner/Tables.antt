@@ -42,7 +42,7 @@ abbrev pub cells_by : NetPins → ℕ → Option NetDriver → NetCells
 cells_by pins n None = record { driver = 0; compared = [] }
 cells_by pins n (Some d) = record { driver = d.position; compared = positions_beside d.place (readers_on pins.nets n) }
 
--- the cells of a net, found in the pins of a board
+-- the cells of net n under the setting `walk`, found in the pins of a board
 abbrev pub cells_in : NetPins → List Ctl → ℕ → NetCells
 cells_in pins walk n = cells_by pins n (observer_on pins.nets (holds walk) n)
 
@@ -50,7 +50,7 @@ cells_in pins walk n = cells_by pins n (observer_on pins.nets (holds walk) n)
 abbrev pub nets_in : NetPins → List Ctl → ℕ → List ℕ
 nets_in pins walk count = filter (λ n. is_some (observer_on pins.nets (holds walk) n)) (range_with_len 0 count)
 
--- the nets that the setting observes, or no nets if there is no setting
+-- the nets below `count` that the setting observes, or no nets if there is no setting
 abbrev pub nets_by : NetPins → Option (List Ctl) → ℕ → List ℕ
 nets_by pins None count = []
 nets_by pins (Some walk) count = nets_in pins walk count

@@ -9,9 +9,9 @@ use Rattle.scan_planner.specs.Plans.{IsRoom}
 use Rattle.commands.specs.inner.Rows.{EachStoredHasRoom, HoldScan}
 use Rattle.commands.proofs.board_test.write_scans.Given as goal
 
--- The sink has taken the head and the first `k` scans. If `held` has a shape, `k` is above 0, the
--- rows hold scan `k - 1`, and `held` has its shape. `kept` holds no rows of another test, and the
--- rows have room for a scan.
+-- The sink has taken the head and the first `k` scans. If `held` has a shape, `k` is above 0, the rows hold
+-- scan `k - 1`, and `held` has the shape of that scan. `kept` holds no rows of another test, and the rows
+-- have room for a scan.
 abbrev pub invariant-loop-k : goal.invariant-loop-k
 invariant-loop-k g l = record {
   put : Puts {T = Unit {0}} {E = PutFault} (g.K.Sink.shown l.fn.out) (g.K.Sink.shown l.out)
