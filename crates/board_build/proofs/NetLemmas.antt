@@ -18,7 +18,7 @@ use Rattle.board_lines.proofs.ApartLemmas.{Apart, apart_pairs, apart_map, apart_
 abbrev pub words_on : List NetWord → ℕ → List NetWord
 words_on words n = filter (λ word. word_net word == n) words
 
--- the net is net `n` of the nets numbered from `first` on, and has name `n` of the list
+-- the net has the number `first + n`, and its name is at index `n` of the list
 pub record NetAt (marks : NetMarks) (words : List NetWord) (first : ℕ) (names : List (List ℕ)) (n : ℕ) (net : Net) : Type 0 where
   pub name : List ℕ
   pub named : slice_get names n ≡ Some name

@@ -236,8 +236,8 @@ placed_where board marks pin (Some at) same e h = by_found (find (λ i. same_pin
           has_pin = r.has_pin ∙ ap Some (same_text s.0.1 pin.1 (sym parts.1));
         })
 
--- if the pin's part is not described, or if its pin map has the pin, the pin and its place keep the
--- rule of a board on places (`IsPlaced`)
+-- if the pin's part is not described, or if the part's pin map has the pin, the pin and its place
+-- keep the rule of a board on places (`IsPlaced`)
 pub placed : (board : RawBoard) (marks : NetMarks) (pin : Pin)
     → marks.places ≡ pin_places board.chain
     → is_unknown (described_names board.chain) marks.places pin ≡ false

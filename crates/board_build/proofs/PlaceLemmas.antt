@@ -1,5 +1,6 @@
--- If no two words have the same pin when pins are compared by their places, the words name
--- different pins. The place of a pin is the number of its part and the number of its port bit.
+-- If no two words have the same pin when pins are compared by their places, or by their names if
+-- neither has a place, the words name different pins. The place of a pin is the number of its part
+-- and the number of its port bit.
 use Rattle.std.proofs.Common.{◌≡◌, ℕ, ◌≤◌, ◌==◌, Bool, true, false, cond, ◌&&◌, ◌||◌, List, [], ◌∷◌, ◌++◌, length, map, take, drop, Option, Some, None, refl, sym, ap, ◌∙◌}
 use Rattle.std.specs.Prelude.{option_map}
 use Rattle.std.specs.List.{list_any}

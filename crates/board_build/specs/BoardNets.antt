@@ -1,4 +1,5 @@
--- The board that a chain file, a net file and devices denote.
+-- The board that a chain file, a net file and devices denote. The place of a pin is the number of
+-- its part and the number of its port bit.
 use Rattle.std.specs.Prelude.{ℕ, ◌+◌, List, [], ◌∷◌, map}
 use Rattle.board_files.specs.declared.chain_file.ChainLine.{ChainLine}
 use Rattle.board_files.specs.declared.net_file.NetLine.{NetLine}

@@ -21,8 +21,9 @@ use short_lists::ShortSlice;
 use std::alloc::{AllocError, Global};
 
 /// Returns the board that the files and the devices denote, or the fault of the first rule that the
-/// files break. The rules are checked in this order: Limit 2 to 4, NoPin, PinTwice, InertInChain,
-/// NoSupplyNet, NoPullNet, PullTwice, GuardedDriver and TwoAlwaysOn.
+/// files break, or lack of memory. The rules are checked in this order: Limit 2 (the bits of a data
+/// scan), Limit 3 (the nets), Limit 4 (the pins), NoPin, PinTwice, InertInChain, NoSupplyNet,
+/// NoPullNet, PullTwice, GuardedDriver and TwoAlwaysOn.
 ///
 /// `select` must have accepted the chain, and `devices` must have a device for each DEVICE line, in
 /// the order of these lines. LINK lines are ignored. To build a board with series parts, pass its
@@ -62,7 +63,7 @@ pub fn parts_of_chain(
 }
 
 /// Returns the board of the chain and these net lines, or the fault of the first rule that they
-/// break. There must be fewer than 2^32 lines, and each line must have fewer than 2^32 words.
+/// break, or lack of memory. There must be fewer than 2^32 lines, and each line must have fewer than 2^32 words.
 fn board_of(alloc: Global, chain: SelectedChain<'_>, nets: &[NetLine]) -> Result<Board, BoardFault>
     requires { IsNetFile nets.now }
     ensures { Gives board_told (λ board. board)

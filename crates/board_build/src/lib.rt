@@ -1,4 +1,4 @@
-//! The board that a chain file, a net file and its devices denote.
+//! The board that a chain file, a net file and the devices of the chain denote.
 #![tactic(auto)]
 
 mod building;

@@ -1,5 +1,6 @@
-// Tests whether the words of a net file name different pins. A flag for each port bit shows which
-// pins with a place in the chain were named, so their names are not compared.
+// Tests whether the words of a net file name different pins. The place of a pin in the chain is the
+// number of its part and the number of its port bit. A flag for each port bit shows which pins with a
+// place were named, so the names of these pins are not compared.
 ghost use Rattle.std.specs.Prelude.{◌≡◌, ℕ, true, false, [], replicate, length, map, slice_index_or, None, IfOk, OnOk};
 ghost use Rattle.first_places.specs.Places.{first_repeated};
 ghost use Rattle.board_lines.specs.PinRows.{pins_of_part};

@@ -78,7 +78,7 @@ places_from n (part ∷ parts) = part_places n part.name part.kind ++ places_fro
 abbrev pub pin_places : List Part → List PinPlace
 pin_places parts = places_from 0 parts
 
--- the first place that the list has for the pin
+-- the first place that the list has for the pin, or None if the list has none
 abbrev pub place_of_pin : List PinPlace → Pin → Option PinAt
 place_of_pin places pin = first_value same_pin places pin
 

@@ -39,8 +39,8 @@ row_at rows numbers part = option_and_then (λ number. slice_get rows number) (s
 abbrev pub ArePinRows : List (List (Option (List ℕ))) → List ℕ → List Part → Type 0
 ArePinRows rows numbers parts = map (λ number. slice_get rows number) numbers ≡ map (λ part. Some (pins_of_part part.kind)) parts
 
--- the place of this pin of part `part`, if there is such a part and one of its port bits has the
--- pin
+-- the place of this pin of part `part`: the number of the part, and the number of the part's first
+-- port bit with the pin; None if there is no such part or if none of its port bits has the pin
 abbrev pub place_by_part : List (List (Option (List ℕ))) → List ℕ → Option ℕ → List ℕ → Option PinAt
 place_by_part rows numbers None pin = None
 place_by_part rows numbers (Some part) pin =

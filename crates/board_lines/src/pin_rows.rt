@@ -1,5 +1,5 @@
-// Pin rows. A pin row lists the pin of each port bit of a device, and maps each pin to its port
-// bit. A port bit is one bit of a port. Parts with the same pins can share a row.
+// Pin rows. A pin row lists the pin of each port bit of a part, and maps each pin to the first port
+// bit with this pin. A port bit is one bit of a port. Parts with the same pins can share a row.
 ghost use Rattle.std.specs.Prelude.{◌≡◌, ◌≤◌, if◌then◌else◌, length, slice_get, true, IfOk, IfSome, List, OnOk, Option, Some, ℕ};
 ghost use Rattle.board_defs.specs.Limits.{most_bits};
 ghost use Rattle.std.proofs.Common.{Bor};

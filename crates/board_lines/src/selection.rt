@@ -16,9 +16,9 @@ use bsdl_parser::Entity;
 use short_lists::ShortSlice;
 use std::alloc::{AllocError, Global};
 
-/// Returns the index in `entities` of each DEVICE line's entity, or the first fault of the chain.
-/// If there is no fault, the chain has 1 to 255 parts with different names. There must be fewer
-/// than 2^32 entities.
+/// Returns the index in `entities` of each DEVICE line's entity, or the first fault of the chain, or
+/// lack of memory. If there is no fault, the chain has 1 to 255 parts with different names. There
+/// must be fewer than 2^32 entities.
 pub fn select(alloc: Global, chain: &ChainFile, entities: &[Entity]) -> Result<Vec<u32>, BoardFault>
     requires { length entities.now < 2 ^ 32 }
     ensures numbers { Gives board_told (λ numbers. numbers.items)

@@ -103,7 +103,7 @@ fn add_tokens(text: TextSlice<'_>, out: &mut Vec<Token>) -> Result<(), LexFault>
 /// than 2^32 bytes.
 ///
 /// On a fault of the text, `out` contains the tokens before the place of the fault. If memory runs
-/// out, `out` contains the first tokens of the text.
+/// out, `out` contains the tokens found until then.
 pub fn lex(bytes: &[u8], out: &mut Vec<Token>) -> Result<(), LexFault>
     requires short { length bytes.now < 2 ^ 32 }
     requires empty { out.old.items ≡ [] }

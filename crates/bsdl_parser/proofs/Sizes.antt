@@ -1,6 +1,7 @@
--- The names and texts of an entity are no longer than the text, and its lists have no more items than the text has
--- bytes. In the proof, each name has a cost, which is its length, but at least 1. Each token has a weight, which is the
--- cost of its bytes. The cost of a value is at most the total weight of the tokens from which it is read.
+-- The names and texts of an entity are no longer than the BSDL text, and the entity's lists have no more items than
+-- this text has bytes. In the proof, each name has a cost, which is its length, but at least 1. Each token has a
+-- weight, which is the cost of its bytes. The cost of a value is at most the total weight of the tokens from which it
+-- is read.
 use Rattle.std.proofs.Common.{◌≡◌, ℕ, ◌+◌, ◌-◌, ◌<◌, ◌≤◌, List, [], ◌∷◌, ◌++◌, ◌^◌, ◌∙◌, length, map, drop, Bool, true, false, Option, Some, None, refl, ap, subst, arith, length-append, length-drop, length-take}
 use Rattle.std.proofs.lemmas.List.{length-map}
 use Rattle.std.proofs.lemmas.List.Elements.{All-nil, All-cons, All-weaker}
@@ -203,7 +204,7 @@ value_covers forms.Number n =
     (λ number b hb. keeps_in_turn keeps_more (λ _ c hc. keeps_done (omega arith))))
 value_covers forms.Text n = keeps_in_turn keeps_more (λ _ a ha. keeps_in_turn (string_cost _ a) (λ text b hb. keeps_done (omega arith)))
 
--- the cost of an attribute, which is 1 for its first word plus the cost of its value
+-- the cost of an attribute item, which is 1 for the item's first word plus the cost of the attribute's value
 abbrev attr_cost : Attr → ℕ
 attr_cost attr = 1 + value_cost attr.value
 

@@ -145,7 +145,7 @@ impl<'a> Cursor<'a> {
         }
     }
 
-    /// Skips one token. Returns false if the token is `;`, which ends the item.
+    /// Skips one token. Returns false if the token is `;`, which ends the item, and otherwise true.
     #[tactic(auto, unfolding(crate::specs::Bsdl::skipped_token))]
     fn skipped_token(&mut self) -> Result<bool, Stop>
         ensures { ReadsTokens (reader_of_grammar (skipped_token tt)) self.old self.new result

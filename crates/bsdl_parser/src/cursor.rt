@@ -1,5 +1,6 @@
 //! A cursor that reads the tokens of a text from the first to the last. A mark is a token that is one punctuation
-//! character.
+//! character. If the next token does not fit or is missing, a reading function returns `Stop::Stray` and does not read
+//! it.
 ghost use Rattle.std.specs.Prelude.{◌≡◌, map, length};
 ghost use Rattle.std.specs.Char.{to_ascii_uppercase};
 ghost use Rattle.grammars.specs.Grammar.{reader_of_grammar};
@@ -84,7 +85,8 @@ fn is_the_mark(text: &[u8], token: &Token, name: &[u8]) -> bool
     is_mark(token.kind) && spells(bytes_at(text, token), name)
 }
 
-/// Returns the bytes between the quotes of a string token.
+/// Returns the bytes between the quotes of a string token, that is, between the first and the last byte. Returns no
+/// bytes if there are fewer than two.
 fn unquoted(bytes: &[u8]) -> &[u8]
     ensures { map to_ascii_uppercase result.now
         ≡ places.contents (map to_ascii_uppercase bytes.now) }

@@ -81,7 +81,7 @@ role_of word =
     if bytes_eq word (codes "BIDIR") then Some roles.Bidir else
     some_if (bytes_eq word (codes "OBSERVE_ONLY")) roles.ObserveOnly
 
--- the word is a disable result: the state of a driver that does not drive
+-- the word is a disable result: the state of a disabled driver
 abbrev pub is_result : List ℕ → Bool
 is_result word =
     bytes_eq word (codes "Z") || (bytes_eq word (codes "WEAK0") || (bytes_eq word (codes "WEAK1") ||

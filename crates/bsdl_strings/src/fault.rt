@@ -11,7 +11,8 @@ use thiserror::Error;
 pub enum StringFault {
     /// The number of the first wrong entry, counted from 1. Each entry before it is whole and followed by a comma. For
     /// a pattern, the number is the place of the first character that is not 0, 1 or X, counted from 1, or 1 if the
-    /// pattern is empty. For a compliance string, it is 1 for the list of port bits and 2 for the rest.
+    /// pattern is empty. For a compliance string, the number is 1 if the list of port bits is wrong, and 2 if the rest
+    /// of the string is wrong.
     #[error("entry {0}")]
     At(u32),
     #[error("out of memory")]

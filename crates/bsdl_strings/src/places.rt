@@ -1,6 +1,6 @@
-//! Functions that read one piece of a text. A piece is a group of letters, digits and `_`, or a single other byte. Each
-//! function returns the value of the piece and the text after it, or `Stop::At` if the piece does not fit. A mark is a
-//! piece of one byte.
+//! Functions that read one piece of a text, and functions that they use. A piece is a group of letters, digits and `_`,
+//! or a single other byte. A function that reads a piece returns the value of the piece, if it has one, and the text
+//! after the piece, or `Stop::At` if the piece does not fit. A mark is a piece of one byte.
 ghost use Rattle.std.specs.Prelude.{◌≡◌, ◌-◌, ◌*◌, ◌<◌, ◌≤◌, ◌^◌, [], length, IfOk};
 ghost use Rattle.std.specs.List.{list_all, take_while};
 ghost use Rattle.grammars.specs.inner.Reader.{found};
@@ -69,7 +69,7 @@ fn are_symbols(piece: &[u8]) -> bool
     piece.iter().all(|byte| fits_symbol(*byte))
 }
 
-/// Returns how many characters at the front are 0, 1 or X.
+/// Returns how many characters at the front are 0, 1, X or x.
 pub(crate) fn leading_symbols(text: &[u8]) -> usize
     ensures count { result ≡ length (take_while is_symbol text.now) }
     ensures within { result ≤ length text.now }
@@ -303,8 +303,8 @@ fn names_result(piece: &[u8]) -> bool
         || spells(piece, b"KEEPER")
 }
 
-/// Reads a disable result, which is the state of a disabled driver. The state is not returned: in
-/// each state that the grammar allows, the driver does not drive.
+/// Reads a disable result, which is the state of a disabled driver. Returns only the text after it,
+/// since the program makes no difference between these states.
 pub(crate) fn result_of_disabling(text: &[u8]) -> Result<&[u8], Stop<'_>>
     ensures { ReadsPieces (λ rest. found tt (pieces rest.now)) result
         (reader_of_grammar result_word (pieces text.now)) }

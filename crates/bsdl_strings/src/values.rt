@@ -5,7 +5,8 @@ use board_defs::{Code, Control, Items, Name, Role, Symbol};
 #[derive(Debug, Drop)]
 pub struct MapEntry {
     pub port: Name,
-    /// A pin for each bit of the port, in the order of the port's range from left to right.
+    /// The pins in the order of the string. If the entry is correct, they are the pins of the port's bits from left to
+    /// right.
     pub pins: Items<Name>,
 }
 

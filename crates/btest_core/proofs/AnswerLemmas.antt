@@ -13,7 +13,8 @@ pub gives_more : {U V : Type 0} (view : U → V) (P Q : Result V InputFault → 
 gives_more view P Q (Ok value) more is = more (Ok (view value)) is
 gives_more view P Q (Err fault) more is = IfSome_then (input_told fault) is (λ f. more (Err f))
 
--- if the first step returns a value, the answer of the next step for it is the answer of both steps
+-- if the first step returns a value, the answer of the next step for this value is the answer of
+-- both steps
 pub goes_on : {W U V : Type 0} (view : U → V) (first : Result W InputFault → Type 0)
     (next : W → Result V InputFault → Type 0) (value : W) (answer : Result U InputFault)
     → first (Ok value) → Gives input_told view (next value) answer

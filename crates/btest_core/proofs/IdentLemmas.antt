@@ -35,8 +35,9 @@ described (line ∷ lines) none = described_more line.line line.statement lines 
 abbrev pub idents_of : List RawDevice → List Ident
 idents_of devices = map (λ device. device.idcode) devices
 
--- if a chain has 1 to 255 parts with different names, a device for each DEVICE line and no BYPASS
--- line, it has 1 to 255 patterns
+-- If a chain has 1 to 255 parts with different names, a device for each DEVICE line and no BYPASS
+-- line, the list of its devices' patterns has 1 to 255 items. The item of a device without a pattern
+-- is None.
 pub count_idents : (lines : List ChainLine) (devices : List RawDevice) → IsChain lines
     → length devices ≡ length (named EntityName lines) → first_bypass lines ≡ None
     → (0 < length (idents_of devices)) × (length (idents_of devices) ≤ most_parts)

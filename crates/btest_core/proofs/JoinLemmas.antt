@@ -15,7 +15,7 @@ use Rattle.series_parts.specs.Nets.{Word}
 use Rattle.series_parts.proofs.FileLemmas.{same_lengths}
 use Rattle.series_parts.specs.Joining.{joined_line, joined_net, renaming, joined_chain, joined_nets, joined_files, unless_missing}
 
--- the lines with the new names of nets
+-- the lines with the new names of nets, and with an INERT line in place of each LINK line
 abbrev renamed : (Word → Word) → List ChainLine → List ChainLine
 renamed rename lines = map (joined_line rename) lines
 

@@ -1,4 +1,5 @@
--- The devices, the codes and the board that texts denote keep their rules.
+-- The devices that texts denote keep the rules of a device, and the board keeps the rules of a board.
+-- The list of the identification codes' patterns has 1 to 255 items, and each pattern has 32 symbols.
 use Rattle.std.proofs.Common.{◌≡◌, ◌<◌, ◌≤◌, ℕ, List, [], ◌∷◌, length, Option, Some, None, Result, Ok, Err, ap, sym, ◌∙◌, subst, refl, inl, inr, arith}
 use Rattle.std.specs.Prelude.{All}
 use Rattle.std.specs.List.{AllByRecursion}

@@ -29,14 +29,15 @@ abbrev pub Chosen : Type 0
 Chosen = ℕ × Option (List ℕ)
 
 -- the choices of the DEVICE lines, in the order of the lines; `numbers` has the number of the text
--- for each of these lines
+-- for each of these lines; if the numbers are fewer or more than these lines, the surplus lines or
+-- numbers give no choice
 abbrev pub chosen_texts : List ChainLine → List ℕ → List Chosen
 chosen_texts lines numbers = zip numbers (filter_map (λ line. package_in line.statement) lines)
 
--- If the entity breaks no rule in the chosen package, the answer is the device of the entity in
--- this package. The package is the entity's default package if the choice has none. If a
--- rule or a string of the entity fails, the answer is the fault of the first one that fails, with
--- the number of the text.
+-- If no rule and no string of the entity fails in the chosen package, the answer is the device of
+-- the entity in this package. The package is the entity's default package if the choice has none. If
+-- a rule or a string fails, the answer is the fault of the first one that fails, with the number of
+-- the text. Lack of memory is not such an answer.
 abbrev pub IsDeviceIn : Entity → Chosen → Result RawDevice InputFault → Type 0
 IsDeviceIn entity choice (Ok device) = IsSound entity choice.1 device
 IsDeviceIn entity choice (Err (Device text fault)) = (text ≡ choice.0) × IsFirstFailure entity choice.1 fault
@@ -53,8 +54,9 @@ IsDeviceIn entity choice (Err (Memory error)) = ⊥
 abbrev pub IsDeviceOf : List Entity → Chosen → Result RawDevice InputFault → Type 0
 IsDeviceOf entities choice answer = (entity : Entity) × (slice_get entities choice.0 ≡ Some entity) × IsDeviceIn entity choice answer
 
--- the answer is the devices of the DEVICE lines, in the order of the lines, or the first fault; a
--- fault of the selection comes before the faults of the devices
+-- The answer is the devices of the DEVICE lines, in the order of the lines, or the first fault. The
+-- selection finds the entity of each DEVICE line and checks the rules on the chain. A fault of the
+-- selection comes before the faults of the devices.
 abbrev pub AreSelected : List ChainLine → List Entity → Result (List RawDevice) InputFault → Type 0
 AreSelected lines entities =
     IsAnswerOfSteps (Is (in_board (selection lines entities)))

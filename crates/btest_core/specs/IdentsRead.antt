@@ -1,5 +1,5 @@
--- The patterns of the identification codes of a chain that texts denote. An answer is a list of
--- patterns or the first fault.
+-- The patterns of the identification codes of a chain that texts denote. An answer is the first fault,
+-- or a list with an item for each device: its pattern, or None if it has no identification code.
 use Rattle.std.specs.Prelude.{ℕ, Bool, true, false, List, map, find, Option, Some, None, option_map, Result, Ok, Err}
 use Rattle.board_defs.specs.declared.device.Symbol.{Symbol}
 use Rattle.board_defs.specs.declared.device.RawDevice.{RawDevice}

@@ -35,9 +35,9 @@ pub fn read_device(alloc: Global, text: TextSlice<'_>) -> Result<Device, InputFa
 }
 
 // Returns the device of the entity in this package, or the fault of the first rule or string that
-// fails. If `package` is None, the package is the entity's default package. `text` is the number of
-// the entity's text, which the fault reports. The entity's lists, names and texts must be shorter
-// than 2^32.
+// fails, or lack of memory. If `package` is None, the package is the entity's default package.
+// `text` is the number of the entity's text, which the fault reports. The entity's lists, names and
+// texts must be shorter than 2^32.
 fn device_in(
     alloc: Global,
     entity: &Entity,
@@ -56,8 +56,9 @@ fn device_in(
 }
 
 // Returns the device of entity number `text` in this package, or the fault of the first rule or
-// string that fails. If `package` is None, the package is the entity's default package. There must be
-// an entity with this number. The lists, names and texts of each entity must be shorter than 2^32.
+// string that fails, or lack of memory. If `package` is None, the package is the entity's default
+// package. There must be an entity with this number. The lists, names and texts of each entity must
+// be shorter than 2^32.
 fn device_of(
     alloc: Global,
     entities: &[Entity],
@@ -178,7 +179,8 @@ fn packages<'a>(alloc: Global, lines: &'a [ChainLine]) -> Result<Vec<Option<&'a 
 }
 
 // Returns the choices of the DEVICE lines, in the order of the lines. A choice has the number of a
-// text, from `numbers`, and a package if the line gives one.
+// text, from `numbers`, and a package if the line gives one. If the numbers are fewer or more than
+// these lines, the surplus lines or numbers give no choice.
 fn chosen<'a>(
     alloc: Global,
     lines: &'a [ChainLine],

@@ -38,7 +38,7 @@ pub enum InputFault {
     /// The first LINK pin that is in no net.
     #[error("{0}")]
     Link(LinkFault),
-    /// The line number of the chain file's first BYPASS line. The part on it has no BSDL
+    /// The line number of the chain file's first BYPASS line. The part on this line has no BSDL
     /// description, so it is not known which register the part selects after a reset.
     #[error("line {0}: part without a description")]
     NoIdent(u32),

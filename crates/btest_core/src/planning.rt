@@ -15,7 +15,7 @@ use scan_planner::law::useful_planned;
 use std::alloc::{AllocError, Global};
 
 /// Returns the plan of the board's test. `classes` must be the classes of the board, which say what
-/// its nets, pins and controls can do in safe settings. A caller that has the pins of the board's
+/// the board's nets, pins and controls can do in safe settings. A caller that has the pins of the board's
 /// nets calls `plan_by` instead.
 pub fn plan(alloc: Global, board: &Board, classes: &Classes) -> Result<Plan, AllocError>
     requires { AreClasses board.now classes.now }

@@ -239,7 +239,7 @@ log_read name command (workers ∷ log ∷ chain ∷ nets ∷ x ∷ rest) =
     (λ files. option_map (λ number. command number files)
     (number_of most_workers workers))) (few_log log chain nets (x ∷ rest))
 
--- the shape of the command that works on a response log with one worker
+-- the shape of the command `groups`, which works on a response log and takes no number of workers
 abbrev groups_shape : Shape
 groups_shape = shape_in (many_app (codes "groups") (codes "LOG" ∷ board_words))
 

@@ -69,11 +69,11 @@ plain_fault s word h p =
 abbrev pub before : Bool → Held → ℕ → Walk
 before many h position = record { held = h; waiting = waiting_for many; position = position; is_trailing = false; stopped = None }
 
--- the walk after it has given a word to the positional argument at its position
+-- the walk after it has given a word to the positional argument at the walk's position
 abbrev pub placed : List Rule → Walk → Text → Walk
 placed c w word = to_positional c (arg_by_index c w.position) word w w.held
 
--- if a word is plain, the walk gives it to the positional argument at its position
+-- if a word is plain, the walk gives the word to the positional argument at the walk's position
 pub plain_walked : (s : Shape) (many : Bool) (h : Held) (position : ℕ) (word : Text) → Plain word
     → walked s.rules [] (before many h position) word ≡ placed s.rules (before many h position) word
 unfolding clap_on_literals

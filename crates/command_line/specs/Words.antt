@@ -18,7 +18,7 @@ Text = List ℕ
 -- A command with the names of its files. `chain` and `ident` have the file names of a chain.
 -- `device` has the name of a BSDL file. `cover`, `svf` and `walk` have the file names of a board.
 -- `make` has a number of parts. `groups` has the names of a file of response logs and of the files
--- of its board. `diagnose` and `batch` have these names and a number of workers.
+-- of its board. `diagnose` and `batch` have these names and a number of workers (threads).
 abbrev pub Command : Type 0
 Command = CommandOf Text (List Text)
 

@@ -17,8 +17,8 @@ use side_by_side::Workers;
 use std::alloc::{AllocError, Global};
 
 /// Returns the command that `clap` found. Returns `None` if there is no such command, an argument is
-/// missing, a number is out of range, or there are more than 255 BSDL names. The only error is lack
-/// of memory.
+/// missing, a number has a wrong form or is out of range, or there are more than 255 BSDL names. The
+/// only error is lack of memory.
 pub fn command_in<'a>(
     alloc: Global,
     matches: &ArgMatches<'a>,
@@ -260,7 +260,8 @@ fn walk_command<'a>(
     }
 }
 
-// Returns the command `make`, or `None` if the number of parts is missing or out of range.
+// Returns the command `make`, or `None` if the number of parts is missing, has a wrong form or is out of
+// range.
 fn make_command<'a>(found: &ArgMatches<'a>) -> Option<NamedCommand<'a>>
     ensures { result ≡ make_in (rows_of (found_of found.now)) }
 {
@@ -268,16 +269,16 @@ fn make_command<'a>(found: &ArgMatches<'a>) -> Option<NamedCommand<'a>>
     Some(Command::Make(parts))
 }
 
-// Returns the number of workers (the threads that work on a diagnosis), or `None` if it is missing
-// or out of range.
+// Returns the number of workers (the threads that work on a diagnosis), or `None` if the number is
+// missing, has a wrong form or is out of range.
 fn workers_in(found: &ArgMatches) -> Option<Workers>
     ensures { result ≡ workers_in (rows_of (found_of found.now)) }
 {
     workers_of(word_in(found, "WORKERS")?)
 }
 
-// Returns the command `diagnose`, or `None` if an argument is missing, the number of workers is out of range, or there are more
-// than 255 BSDL names.
+// Returns the command `diagnose`, or `None` if an argument is missing, the number of workers has a wrong
+// form or is out of range, or there are more than 255 BSDL names.
 fn diagnose_command<'a>(
     alloc: Global,
     found: &ArgMatches<'a>,
@@ -303,8 +304,8 @@ fn groups_command<'a>(
     }
 }
 
-// Returns the command `batch`, or `None` if an argument is missing, the number of workers is out of range, or there are more than
-// 255 BSDL names.
+// Returns the command `batch`, or `None` if an argument is missing, the number of workers has a wrong
+// form or is out of range, or there are more than 255 BSDL names.
 fn batch_command<'a>(
     alloc: Global,
     found: &ArgMatches<'a>,

@@ -1,4 +1,4 @@
--- The strings of a small entity are short: each has fewer than 2^32 bytes.
+-- If all names, texts and lists of an entity are shorter than 2^32, so are the strings that are read from it.
 use Rattle.std.proofs.Common.{◌≡◌, ◌==◌, ℕ, ◌<◌, ◌^◌, Bool, true, false, if◌then◌else◌, List, [], ◌∷◌, length, Option, Some, None, Ok, subst, ap}
 use Rattle.std.specs.List.{All, count_by, find}
 use Rattle.std.specs.Option.{IfSome, option_map, option_and_then}

@@ -46,8 +46,9 @@ abbrev pub code_text : List Symbol → List ℕ
 code_text [] = []
 code_text (symbol ∷ symbols) = code_text symbols ++ symbol_word symbol
 
--- the texts of the instruction codes; IEEE 1149.1-2001 splits SAMPLE/PRELOAD in two and does not
--- prescribe the code of EXTEST
+-- The names and codes of the instructions. Before the 2001 edition, SAMPLE/PRELOAD is one instruction, and the standard
+-- prescribes the code of EXTEST, so the listing has only the code of SAMPLE. The 2001 edition splits SAMPLE/PRELOAD in
+-- two and does not prescribe the code of EXTEST, so the listing has the codes of PRELOAD and EXTEST.
 abbrev pub instructions_text : Edition → List Symbol → List Symbol → List ℕ
 instructions_text Old sample extest = whole (codes " SAMPLE " ∷ code_text sample ∷ [])
 instructions_text Of2001 sample extest = whole (codes " PRELOAD " ∷ code_text sample ∷ codes " EXTEST " ∷ code_text extest ∷ [])
@@ -96,7 +97,7 @@ abbrev pub bit_text : List (List ℕ) → Option PortBit → List ℕ
 bit_text ports None = []
 bit_text ports (Some bit) = name_of_port ports bit.port ++ index_text bit.index
 
--- the port bit of an entry, or `*` if the entry has none
+-- the port bit of an entry, or `*` if the entry has none; no text if there is no bit with the entry's bit number
 abbrev pub place_text : List (List ℕ) → List PortBit → Option ℕ → List ℕ
 place_text ports bits None = codes "*"
 place_text ports bits (Some bit) = bit_text ports (slice_get bits bit)

@@ -93,7 +93,7 @@ found_registers entity =
 abbrev pub is_repeated : Entity → Attribute → Bool
 is_repeated entity attribute = nat_lt 1 (times entity attribute)
 
--- the text is one of the editions that COMPONENT_CONFORMANCE may name
+-- there is a text, and it is one of the three editions that COMPONENT_CONFORMANCE may name
 abbrev pub is_edition : Option (List ℕ) → Bool
 is_edition text =
     has_text (codes "STD_1149_1_1990") text

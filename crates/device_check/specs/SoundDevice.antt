@@ -81,7 +81,7 @@ pub record FailsNeed (entity : Entity) (given : Option (List ℕ)) (number item 
   pub item_is : item ≡ source_number source
 
 -- the fault is the fault of the first step that fails; the steps are V1, then the strings, then V2
--- to V14
+-- to V14; lack of memory is not such a fault
 abbrev pub IsFirstFailure : Entity → Option (List ℕ) → DeviceFault → Type 0
 IsFirstFailure entity given (Rule number item) = FailsNeed entity given number item ⊎ FailsRule entity given number item
 IsFirstFailure entity given (Text attribute entry) = FailsText entity given attribute entry

@@ -12,7 +12,7 @@ pub enum DeviceFault {
     /// A rule, by its number from 1 to 14, and the first item that breaks it.
     ///
     /// For rule 1 the item is the number of an attribute, or 15 for the pin map of the package. For
-    /// the other rules `device_rules::Broken` says what the item is.
+    /// the other rules the variants of `device_rules::Rule` say what the item is.
     #[error("rule V{number} item {item}")]
     Rule { number: u32, item: u32 },
     /// A string that does not fit its grammar. `attribute` is the number of its attribute, or 15

@@ -90,7 +90,8 @@ fn print_instruction<K: Sink>(
     print_code(code, line, out)
 }
 
-/// Prints the preload code, and the EXTEST code if the edition does not prescribe it.
+/// Prints the name and the code of the preload instruction, and also those of EXTEST if the edition does not prescribe
+/// the code of EXTEST.
 fn print_instructions<K: Sink>(
     device: &RawDevice,
     line: &mut Line,
@@ -327,7 +328,8 @@ fn print_bit<K: Sink>(
     print_index(bit.index, line, out)
 }
 
-/// Prints the port bit of an entry, or `*` if the entry has none.
+/// Prints the port bit of an entry, or `*` if the entry has none. Prints nothing if the list has no bit with this
+/// number.
 fn print_place<K: Sink>(
     ports: &[Name],
     bits: &[PortBit],

@@ -1,4 +1,5 @@
-//! Rule V1: the attributes, strings and pin map that an entity must have.
+//! Rule V1. An entity must have certain attributes and the pin map of its package. It must not repeat the optional
+//! attributes, and COMPONENT_CONFORMANCE must name an edition if the entity has this attribute.
 ghost use Rattle.std.specs.Prelude.{◌≡◌, option_copied, option_map};
 ghost use Rattle.device_check.specs.Attributes.{chosen_package};
 ghost use Rattle.device_check.specs.Needed.{within, is_repeated, is_edition, conforms, found_taps, found_registers, wrong_option, found_package, v1};

@@ -123,8 +123,8 @@ fn read_boundary(alloc: Global, needed: &Needed) -> Result<Items<Entry>, DeviceF
 }
 
 /// Returns the values of all strings, or the fault of the first string that does not fit its
-/// grammar. Reads the strings in the order of the fields of `Strings`. The strings must be shorter
-/// than 2^32 bytes.
+/// grammar, or lack of memory. Reads the strings in the order of the fields of `Strings`. The strings
+/// must be shorter than 2^32 bytes.
 pub(crate) fn read_strings(
     alloc: Global,
     entity: &Entity,

@@ -64,7 +64,7 @@ preload_long ir Of2001 ops long code e = by_part (either_code (first_code (codes
     by_part (inl h) = code_long ir ops long (codes "PRELOAD") code h
     by_part (inr h) = code_long ir ops long (codes "SAMPLE") code h
 
--- `bit_of` counts X as 0
+-- `settled` replaces X by 0, and `bit_of` counts X as 0, too
 settled_bit : (s : Symbol) → bit_of (settled s) ≡ bit_of s
 settled_bit Zero = refl
 settled_bit One = refl

@@ -209,8 +209,8 @@ here_counted number port name mode named plain =
     ap (λ range. count_by (tapped_by name mode) (bits_along number port 0 (indexes range))) plain
     ∙ (one_counted (tapped_by name mode) (only_bit number port) ∙ ap (λ b. cond (b && mode port.mode) 1 0) (name_same port.name name named))
 
--- Exactly one bit has the name of a plain port. So the count is 1 if the port's mode passes the test `mode`, and
--- otherwise 0.
+-- Exactly one bit has the name of a plain port. So the number of bits that have this name and a mode that passes the
+-- test `mode` is 1 if the port's mode passes the test, and otherwise 0.
 name_counted : (first : ℕ) (ports : List Port) → Once (λ port. port.name) ports → (port : Port)
     → Has ports port → port.range ≡ None → (mode : Mode → Bool)
     → count_by (tapped_by port.name mode) (bits_from first ports) ≡ cond (mode port.mode) 1 0

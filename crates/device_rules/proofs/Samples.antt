@@ -74,8 +74,8 @@ numbers : map (bit_number ports)
     ≡ Some 0 ∷ Some 7 ∷ Some 8 ∷ Some 9 ∷ Some 11 ∷ []
 numbers = refl
 
--- words that name no bit: `*`, a vector without an index, a port bit with an index that it does not have, an
--- index outside the range, and a port that does not exist
+-- words that name no bit: `*`, a vector without an index, a port of one bit with an index, an index outside the
+-- range, and a port that does not exist
 no_numbers : map (bit_number ports)
     (Star ∷ Plain (codes "D") ∷ Index (codes "C") 0 ∷ Index (codes "Q") 5 ∷ Plain (codes "E") ∷ [])
     ≡ None ∷ None ∷ None ∷ None ∷ None ∷ []

@@ -1,5 +1,5 @@
 -- The rules on the cells of the boundary register. `v10` returns the number of the first entry that breaks the rule,
--- counted from 1. The functions of the other rules return a cell number.
+-- counted from 1. `v8`, `v11` and `v12` return a cell number. Each of the four returns None if its rule holds.
 use Rattle.std.specs.Prelude.{ℕ, ◌==◌, List, Bool, true, false, ◌&&◌, ◌||◌, not, if◌then◌else◌, Option, Some, None, nat_lt, nat_le, find, option_map, count_by}
 use Rattle.std.specs.List.{list_any}
 use Rattle.board_defs.specs.declared.device.Role.{Role}
@@ -21,7 +21,9 @@ too_large boundary entries = option_map (λ entry. entry.num) (find (λ entry. n
 abbrev pub is_missing : List Entry → ℕ → Bool
 is_missing entries cell = not (list_any (is_entry_of cell) entries)
 
--- V8: each entry's cell number is below the length of the register, and each number below this length has an entry
+-- V8: each entry's cell number is below the length of the register, and each number below this length has an entry.
+-- The result is the cell number of the first entry whose number is not below this length, or else the lowest number
+-- without an entry.
 unfoldable pub v8 : ℕ → List Entry → Option ℕ
 v8 boundary entries = or_else (too_large boundary entries) (least_below (is_missing entries) boundary)
 
@@ -45,8 +47,8 @@ abbrev pub has_control_entry : List Entry → ℕ → Bool
 has_control_entry entries cell = list_any (is_entry_of_control cell) entries
 
 -- The last argument is the control of the entry, or None if it has none. The entry breaks rule V10 if it lacks a
--- control that it needs, it has one although it does not drive, or its control is neither its own cell nor a cell with
--- a CONTROL or CONTROLR entry.
+-- control that it needs, it has a control although it does not drive, or the control cell is neither the entry's own
+-- cell nor a cell with a CONTROL or CONTROLR entry.
 abbrev pub breaks_control_of : List Entry → Entry → Option Control → Bool
 breaks_control_of entries entry None = needs_control entry.role
 breaks_control_of entries entry (Some control) =
@@ -72,7 +74,8 @@ controls_entry value cell entry = is_disabled_by value cell entry.ctl
 abbrev pub has_two_values : List Entry → ℕ → Bool
 has_two_values entries cell = list_any (controls_entry true cell) entries && list_any (controls_entry false cell) entries
 
--- V11: for each cell below `boundary`, all entries that the cell controls have the same disable value
+-- V11: for each cell below `boundary`, all entries that the cell controls have the same disable value. The result is
+-- the lowest cell that breaks the rule.
 unfoldable pub v11 : ℕ → List Entry → Option ℕ
 v11 boundary entries = least_below (has_two_values entries) boundary
 
@@ -90,6 +93,6 @@ abbrev pub is_crowded : List Entry → ℕ → Bool
 is_crowded entries cell = nat_lt 1 (count_by (loads_cell cell) entries) || nat_lt 1 (count_by (writes_cell cell) entries)
 
 -- V12: each cell below `boundary` has at most one entry that defines what the cell captures, and at most one that takes
--- its value from the cell's update latch
+-- its value from the cell's update latch. The result is the lowest cell that breaks the rule.
 unfoldable pub v12 : ℕ → List Entry → Option ℕ
 v12 boundary entries = least_below (is_crowded entries) boundary

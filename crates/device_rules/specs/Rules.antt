@@ -58,15 +58,15 @@ from_3 draft =
 unfoldable pub first_rule : Draft → Option Broken
 first_rule draft = rule Ports (v2 draft.ports) (from_3 draft)
 
--- If the result is a value, the draft breaks no rule, and `IsWanted` holds for the value. If the
--- result names a rule, it is the first rule that the draft breaks. If memory ran out, nothing is
--- claimed.
+-- If the result is a value, the draft breaks none of the rules V2 to V14, and `IsWanted` holds for the value. If the
+-- result names a rule and an item, the rule is the first of these that the draft breaks, and the item is the first
+-- that breaks the rule. If memory ran out, nothing is claimed.
 abbrev pub IfSound : {A : Type 0} → Draft → (A → Type 0) → Result A DraftFault → Type 0
 IfSound draft IsWanted (Ok value) = (first_rule draft ≡ None) × IsWanted value
 IfSound draft IsWanted (Err (faults.Rule broken)) = first_rule draft ≡ Some broken
 IfSound draft IsWanted (Err (faults.Memory error)) = Unit {0}
 
--- the draft breaks no rule
+-- the draft breaks none of the rules V2 to V14
 pub record KeepsRules (draft : Draft) : Type 0 where
   pub v2 : v2 draft.ports ≡ None
   pub v3 : v3 draft.ports draft.taps draft.compliance ≡ None

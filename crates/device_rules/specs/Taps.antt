@@ -68,7 +68,8 @@ wrong_tap ports taps =
     (breaks_tap is_inward ports (taps.scan_in ∷ taps.scan_out ∷ taps.mode ∷ []) taps.clock))
     (broken_by (attribute_number TapScanReset) (reset_breaks ports (four_taps taps) taps.reset)))))
 
--- there are no compliance patterns, or they name port bits only, and each pattern has as many symbols as they name bits
+-- There are no compliance patterns. Or each word in their list of ports names a port bit, and each pattern has one
+-- symbol for each of these words.
 abbrev pub complies : List Port → Option Compliance → Bool
 complies ports None = true
 complies ports (Some compliance) =

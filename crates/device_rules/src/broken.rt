@@ -6,7 +6,8 @@ ghost use Rattle.device_rules.specs.RuleNumbers.{rule_number, broken_at};
 /// opcodes are counted from 1.
 #[derive(Clone, Copy)]
 pub enum Rule {
-    /// V1, on the mandatory attributes and the package. `device_check` checks this rule and says what its items are.
+    /// V1, on the attributes and on the pin map of the package. `device_check` checks this rule, and its `DeviceFault`
+    /// says what the item is.
     Mandatory,
     /// V2, on the ports. The item is a port.
     Ports,

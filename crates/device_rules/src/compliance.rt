@@ -52,8 +52,8 @@ fn has_key(bits: &HashSet<Key>, name: &[u8], index: Option<u32>) -> bool
     bits.contains(&(name, index))
 }
 
-/// Compliance patterns, and the set of bits that they name. In contracts, the value is the
-/// patterns.
+/// The compliance patterns of a device, if it has any, and the set of bits that they name. In
+/// contracts, the value is the patterns, or None.
 #[derive(Drop)]
 pub struct NamedBits<'a> {
     compliance: &'a Option<Compliance>,
@@ -73,7 +73,8 @@ impl<'a> Model for NamedBits<'a> {
 }
 
 impl<'a> NamedBits<'a> {
-    /// Returns these patterns with the set of bits that they name.
+    /// Returns these patterns with the set of bits that they name. The set is empty if there are no
+    /// patterns.
     pub fn of(
         alloc: Global,
         compliance: &'a Option<Compliance>,
@@ -84,7 +85,8 @@ impl<'a> NamedBits<'a> {
         Ok(NamedBits { compliance, bits })
     }
 
-    /// Returns whether the patterns name the bit with this name and index.
+    /// Returns whether the patterns name the bit with this port name and index. Returns false if there
+    /// are no patterns.
     pub fn has(&self, name: &[u8], index: Option<u32>) -> bool
         ensures { result ≡ list_any (names_bit name.now index) (compliance_words self.now) }
     {

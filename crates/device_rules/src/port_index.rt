@@ -31,7 +31,8 @@ fn starts_of(alloc: Global, ports: &[Port]) -> Result<Vec<u32>, AllocError>
 }
 
 /// Returns the place of index `number` in the range, or None if the range does not have the index. Places count from 0,
-/// from left to right.
+/// from left to right. Without a range, the only bit has no index and place 0: the result is 0 if `number` is None, and
+/// otherwise None. With a range, the result is None if `number` is None.
 fn place_in(range: Option<Range>, number: Option<u32>) -> Option<u32>
     ensures { result ≡ index_place range number }
 {

@@ -132,8 +132,8 @@ fn described_bits(alloc: Global, draft: &IndexedDraft) -> Result<Vec<PortBit>, A
     all_bits(alloc, draft.ports(), &pins, &text.taps, &named)
 }
 
-/// Returns the `Cell` that the record has for the entry. It has the number of the port bit that the entry names, if the
-/// entry names one.
+/// Returns the `Cell` that the record has for the entry. The `Cell` has the number of the port bit that the entry
+/// names, if the entry names one.
 fn cell_of(ports: &PortIndex, near: &mut Near, entry: &Entry) -> Cell
     ensures { result ≡ cell_of ports.now entry.now }
 {
@@ -203,8 +203,8 @@ fn parts_of(alloc: Global, draft: &IndexedDraft) -> Result<Parts, AllocError>
     })
 }
 
-/// Returns the computed fields of the device's record, or the first rule that the draft breaks. The
-/// draft's lists must be shorter than 2^32.
+/// Returns the computed fields of the device's record, or the first of the rules V2 to V14 that the
+/// draft breaks, or lack of memory. The draft's lists must be shorter than 2^32.
 fn checked_parts(alloc: Global, draft: &Draft) -> Result<Parts, DraftFault>
     requires { HasShortLists draft.now }
     ensures { IfSound draft.now (λ parts. parts ≡ parts_of draft.now) result }
@@ -238,7 +238,8 @@ fn with_parts(draft: Draft, parts: Parts) -> RawDevice
 
 /// Returns the record of the device that the draft describes, if the draft breaks none of the rules
 /// V2 to V14. Otherwise returns the first of these rules that the draft breaks, with the first item
-/// that breaks it. The draft's lists must be shorter than 2^32.
+/// that breaks it. If memory runs out, returns `DraftFault::Memory`. The draft's lists must be shorter
+/// than 2^32.
 ///
 /// The record keeps the rules of devices if the lengths of the registers are in their ranges. These
 /// are 2 to 255 bits for the instruction register and 1 to 65,535 cells for the boundary register.

@@ -107,7 +107,8 @@ fn first_from_3(alloc: Global, draft: &IndexedDraft) -> Result<Option<Broken>, A
 
 /// Returns the draft with an index of its ports, if the draft breaks none of the rules V2 to V14.
 /// Otherwise returns the first of these rules that the draft breaks, with the first item that
-/// breaks it. The draft's lists must be shorter than 2^32.
+/// breaks it. If memory runs out, returns `DraftFault::Memory`. The draft's lists must be shorter than
+/// 2^32.
 #[tactic(auto, unfolding(crate::specs::Rules::first_rule))]
 pub(crate) fn checked<'a>(alloc: Global, draft: &'a Draft) -> Result<IndexedDraft<'a>, DraftFault>
     requires { HasShortLists draft.now }

@@ -137,8 +137,8 @@ fn have_length(count: usize, patterns: &[Code]) -> bool
         .all(|pattern| pattern.symbols().len() == count)
 }
 
-/// Returns whether the compliance patterns name port bits only, and each pattern has as many symbols as they name bits. Returns
-/// true if there are no compliance patterns.
+/// Returns whether each word in the list of ports of the compliance patterns names a port bit, and each pattern has one
+/// symbol for each of these words. Returns true if there are no compliance patterns.
 fn complies(ports: &PortIndex, compliance: &Option<Compliance>) -> bool
     ensures { result ≡ complies ports.now compliance.now }
 {

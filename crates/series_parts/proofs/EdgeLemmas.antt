@@ -109,8 +109,8 @@ link_edges_within nets chain e h =
     let r = filter_map_has (λ (line : ChainLine). edge_on nets line.statement) chain e h in
     subst (λ (n : ℕ). IsWithin n e) (sym (length-map nets (λ (line : NetLine). line.name))) (edge_on_within nets r.0.statement e r.2)
 
--- the edge leads from one of the lines, which are numbered from `n` on and have the names `names`,
--- to the first line with its name
+-- The edge leads from one of the lines, which are numbered from `n` on and have the names `names`. It
+-- leads to the first line of `all` with the same name, or to the line itself if `all` lacks the name.
 abbrev NameEdge : List Word → ℕ → List Word → ℕ × ℕ → Type 0
 NameEdge all n names e = (k : ℕ) × (k < length names) × (e ≡ (n + k, unwrap_or (name_place all (at names k)) (n + k)))
 

@@ -14,7 +14,8 @@ pub same_is : (a b : Word) → same_word a b ≡ true → a ≡ b
 same_is a b e = (bytes_decides a b).0 e
 
 -- the ways in which links lead from `a` to `b` after `link` is put in front of the links: without
--- it, along it from its first net to its second, or along it from its second net to its first
+-- `link`, along `link` from its first net to its second, or along `link` from its second net to its
+-- first
 pub data Way (link : Pair) (links : List Pair) (a b : Word) : Type 0 where
   without : leads links a b ≡ true → Way link links a b
   forth : leads links a link.0 ≡ true → leads links link.1 b ≡ true → Way link links a b

@@ -66,7 +66,7 @@ pub same_label : (parents : List ℕ) (at parent above : ℕ) (label : ℕ → �
     → IsLabelling parents label → label above ≡ label at
 same_label parents at parent above label within inside p a h = ap label a ∙ h.parent parent inside ∙ ap label p ∙ h.parent at within
 
--- shortening a path keeps the labels: `above`, the grandparent of `at`, becomes its parent
+-- shortening a path keeps the labels: `above`, the grandparent of `at`, becomes the parent of `at`
 pub labels-halved : (parents : List ℕ) (at parent above : ℕ) (label : ℕ → ℕ) → at < length parents
     → parent ≡ get_or parents at 0 → above ≡ get_or parents parent 0 → parent ≢ at
     → IsLabelling parents label → IsLabelling (set parents at above) label

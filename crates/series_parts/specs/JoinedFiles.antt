@@ -1,4 +1,5 @@
--- The nets that LINK lines join, and the joined files of a chain file and a net file.
+-- The nets that LINK lines join, and the joined files of a chain file and a net file. In joined
+-- files, all joined nets have the same name, and an INERT line replaces each LINK line.
 use Rattle.std.specs.Prelude.{◌≡◌, ℕ, ◌≤◌, List, [], ◌∷◌, Some, slice_get, Contains}
 use Rattle.board_files.specs.declared.chain_file.ChainLine.{ChainLine}
 use Rattle.board_files.specs.declared.chain_file.ChainStatement.{ChainStatement}
@@ -32,8 +33,8 @@ pub record IsLeastJoined (chain : List ChainLine) (nets : List NetLine) (net lea
   pub stands : slice_get (line_names nets) place ≡ Some least
   pub first : (k : ℕ) (other : Word) → slice_get (line_names nets) k ≡ Some other → AreJoined chain nets net other → place ≤ k
 
--- The new name of a net on a line is the name of the first net on the lines that is joined with it.
--- A net that is on no line keeps its name.
+-- The new name of a net on a line is the name of the first net on the lines of the net file that is
+-- joined with this net. A net that is on no line keeps its name.
 pub record IsReplaced (chain : List ChainLine) (nets : List NetLine) (old new : Word) : Type 0 where
   pub there : Contains (line_names nets) old → IsLeastJoined chain nets old new
   pub missing : (Contains (line_names nets) old → ⊥) → new ≡ old

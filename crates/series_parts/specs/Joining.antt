@@ -1,4 +1,5 @@
--- The joined files as a function of the chain file and the net file.
+-- The joined files as a function of the chain file and the net file. In joined files, all nets that
+-- LINK lines connect have the same name, and an INERT line replaces each LINK line.
 use Rattle.std.specs.Prelude.{◌&&◌, ◌||◌, Bool, List, [], ◌∷◌, map, find, filter_map, Option, Some, None, Result, Ok, Err, option_map, option_and_then, unwrap_or}
 use Rattle.board_files.specs.declared.chain_file.ChainLine.{ChainLine}
 use Rattle.board_files.specs.declared.chain_file.ChainStatement.{ChainStatement}
@@ -19,7 +20,7 @@ Pair = Word × Word
 abbrev pub pair_of : Option Word → Option Word → Option Pair
 pair_of a b = option_and_then (λ a. option_map (λ b. (a, b)) b) a
 
--- the nets of the two pins of a LINK line, if each pin is in a net
+-- the nets of the two pins of a LINK line, if each pin is in a net; None for any other line
 abbrev pub link_on : List NetLine → ChainStatement → Option Pair
 link_on nets (Link part first second) = pair_of (net_of_pin nets part first) (net_of_pin nets part second)
 link_on nets (Device part entity pack) = None
@@ -32,7 +33,8 @@ abbrev pub links : List NetLine → List ChainLine → List Pair
 links nets chain = filter_map (λ line. link_on nets line.statement) chain
 
 -- A path of these links, each of which may be taken in either direction, leads from net `a` to net
--- `b`. The path either does not use the first link or uses it once.
+-- `b`. The path either does not use the first link or uses it once. The empty path leads from a net
+-- to itself.
 abbrev pub leads : List Pair → Word → Word → Bool
 leads [] a b = same_word a b
 leads (link ∷ links) a b =

@@ -14,6 +14,6 @@ has_word part pin words = list_any (λ word. same_word word.part part && same_wo
 abbrev pub has_pin : Word → Word → NetLine → Bool
 has_pin part pin line = has_word part pin line.pins
 
--- the net of a pin: the name on the first line that has the pin
+-- the net of a pin: the name on the first line that has the pin, or None if no line has it
 abbrev pub net_of_pin : List NetLine → Word → Word → Option Word
 net_of_pin nets part pin = option_map (λ line. line.name) (find (has_pin part pin) nets)

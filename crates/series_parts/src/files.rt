@@ -160,7 +160,7 @@ fn joined_line(
 }
 
 /// Returns the lines of a chain file with the new names of their nets. Replaces each LINK line by
-/// an INERT line for its part.
+/// an INERT line for the part on the LINK line.
 pub fn joined_chain(
     alloc: Global,
     names: &Names<'_>,

@@ -22,8 +22,8 @@ pub struct Joined {
 }
 
 /// Returns the joined files. LINK lines join nets into groups, and each net of a group gets the
-/// name of the group's first net in the net file. An INERT line for its part replaces each LINK
-/// line, so no LINK line is left. `pins` must be made from the lines of `nets`.
+/// name of the group's first net in the net file. Each LINK line becomes an INERT line for the part on
+/// the line, so no LINK line is left. `pins` must be made from the lines of `nets`.
 fn renamed_files(
     alloc: Global,
     chain: &ChainFile,

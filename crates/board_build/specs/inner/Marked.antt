@@ -1,5 +1,7 @@
 -- Marked words: the words of a net file, each with facts about the pin that it names. A rule on
--- these words gives a fault, or None if no word breaks the rule.
+-- these words gives a fault, or None if no word breaks the rule. A part is described if it has a
+-- DEVICE line, and inert if an INERT line names it. The place of a pin is the number of its part and
+-- the number of its port bit. A driver is always on if its entry has no control.
 use Rattle.std.specs.Prelude.{◌≡◌, ℕ, ◌+◌, ◌<◌, ◌==◌, Bool, false, ◌&&◌, ◌||◌, List, [], ◌∷◌, ◌++◌, length, map, filter, find, nat_lt, slice_get, slice_index_or, slice_set, Option, Some, None, Result, option_and_then, option_map, is_none, is_some, if◌then◌else◌}
 use Rattle.std.proofs.Common.{Bor}
 use Rattle.std.specs.Option.{option_to_list}
@@ -165,8 +167,8 @@ same_pins a b = same_pin (pin_in a) (pin_in b)
 unfoldable pub marked_limit : List Marked → Option BoardFault
 marked_limit words = if nat_lt most_pins (length (once same_pins words)) then Some (Limit (limit_number Pins)) else None
 
--- the fault of the first word that names a pin of a described part but has no place, since the
--- part's pin map does not have the pin
+-- the fault of the first word that names a pin of a described part, if the pin has no place, since
+-- the part's pin map does not have the pin
 unfoldable pub marked_unknown : List Marked → Option BoardFault
 marked_unknown words = option_map (λ m. NoPin (marked_spot m)) (find (λ m. m.described && is_none m.at) words)
 

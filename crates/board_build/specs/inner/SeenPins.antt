@@ -23,7 +23,8 @@ are_one a b = at_one_place a.at b.at (same_pins a b)
 abbrev pub is_flagged : List (List Bool) → PinAt → Bool
 is_flagged rows at = slice_index_or (slice_index_or rows at.part []) at.bit false
 
--- an earlier word named the pin: the flag of its place is set, or it has no place and the set has its names
+-- an earlier word named the pin: the flag of the pin's place is set, or the pin has no place and the
+-- set has the name of the pin's part with the pin's own name
 abbrev pub is_known_at : {S : Type 0} → List (List Bool) → IndexSet (Bor (List ℕ) × Bor (List ℕ)) S
     → Option PinAt → Bor (List ℕ) × Bor (List ℕ) → Bool
 is_known_at rows unplaced None pin = contains (λ a b. same_pin (lent_pin a) (lent_pin b)) unplaced pin

@@ -12,8 +12,8 @@ use Rattle.bsdl_parser.specs.Answer.{last_line}
 abbrev pub is_package : Lexeme → Bool
 is_package token = is_the_word (codes "PACKAGE") token
 
--- whether the first of these tokens is the word `package`, and its line; or None if there is no
--- token
+-- the first of these tokens, as far as a fault depends on it: a flag that says whether it is the
+-- word `package`, and its line; or None if there is no token
 abbrev pub front_of : List Lexeme → Option Front
 front_of [] = None
 front_of (token ∷ after) = Some (record { is_package = is_package token; line = token.line })

@@ -36,7 +36,7 @@ pub record IsIndex (ports : List Port) (starts : List ℕ) : Type 0 where
 abbrev pub is_item_called : {A : Type 0} → (A → List ℕ) → List ℕ → A → Bool
 is_item_called name_in name = λ item. bytes_eq (name_in item) name
 
--- the place of the first item with this name, or None if no item has it
+-- the place of the first item with this name, counted from 0, or None if no item has the name
 abbrev pub place_called : {A : Type 0} → (A → List ℕ) → List A → List ℕ → Option ℕ
 place_called name_in items name = position_from (is_item_called name_in name) 0 items
 

@@ -1,5 +1,6 @@
--- The graph of a net file: its points are the lines, and its edges join lines whose nets have the
--- same name or are linked.
+-- The graph of a net file. The points of the graph are the lines of the file, by their indices. An
+-- edge leads from each line to the first line with the same name. For each LINK line, an edge leads
+-- from the first line with its first pin to the first line with its second pin, if each is on a line.
 use Rattle.std.specs.Prelude.{ℕ, ◌+◌, List, [], ◌∷◌, ◌++◌, filter_map, get_or, Option, Some, None, option_map, option_and_then, unwrap_or}
 use Rattle.std.specs.List.{position_from}
 use Rattle.first_places.specs.Places.{first_place}
@@ -40,8 +41,9 @@ edge_on nets (Pull net value) = None
 abbrev pub link_edges : List NetLine → List ChainLine → Edges
 link_edges nets chain = filter_map (λ line. edge_on nets line.statement) chain
 
--- an edge from each of these lines to the first line with its name; the lines are numbered from `n`
--- on and have the names `names`
+-- An edge from each of these lines, which are numbered from `n` on and have the names `names`. It
+-- leads to the first line of `all`, the names on all lines, that has the same name, or to the line
+-- itself if no name in `all` is the same.
 abbrev pub name_edges : List Word → ℕ → List Word → Edges
 name_edges all n [] = []
 name_edges all n (name ∷ names) = (n, unwrap_or (name_place all name) n) ∷ name_edges all (n + 1) names

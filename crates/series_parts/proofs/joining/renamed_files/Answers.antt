@@ -1,4 +1,5 @@
--- The files with the new names of nets are the joined files.
+-- The files with the new names of nets, and with INERT lines in place of LINK lines, are the joined
+-- files.
 use Rattle.std.proofs.Common.{◌≡◌, map, ap, ◌∙◌, sym, subst, Bor, List, ℕ}
 use Rattle.board_files.specs.Files.{IsChainFile, IsNetFile}
 use Rattle.series_parts.specs.inner.Edges.{renamed}
