@@ -173,7 +173,7 @@ inert_of b h k = record {
       t.in_net) (same_text_of p.part q.part same));
 }
 
--- a pin with an always-on driver is not on a supply net or on a net with a test pin
+-- if the pin has an always-on driver, the net is not a supply net and has no TAP pin and no pin that compliance patterns name
 abbrev drives_freely : RawBoard → Net → NetPin → Bool
 drives_freely b net pin = not (is_always_on (drive b net pin)) || (not net.supply && not (list_any (is_test_pin b) net.pins))
 

@@ -1,4 +1,5 @@
--- Consequences of the rules of boards: the places of pins in the chain, and bounds on lengths.
+-- Consequences of the rules of boards: facts about the places of pins in the chain, bounds on lengths, and facts about the entries and
+-- controls of devices in the chain.
 use Rattle.std.proofs.Common.{◌≡◌, ℕ, suc, ◌*◌, ◌^◌, ◌<◌, ◌≤◌, ◌==◌, Bool, true, false, List, [], ◌∷◌, length, Option, Some, None, refl, sym, ◌∙◌, ap, subst, arith, cond}
 use Rattle.std.specs.Prelude.{slice_get, sum_by, All, IfSome, is_some, find, option_map, option_and_then, if◌then◌else◌}
 use Rattle.std.proofs.lemmas.Option.{same_Some}

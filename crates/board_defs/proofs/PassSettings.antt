@@ -1,4 +1,5 @@
--- The settings of passes: every two of their controls are together, and a walk removes no control from a setting.
+-- Lemmas about the settings of passes: every two controls of a setting are together, and a walk removes no control from a setting. Two
+-- controls are together if the setting with just these two is safe.
 use Rattle.std.proofs.Common.{◌≡◌, Bool, true, false, not, ◌&&◌, ◌||◌, List, [], ◌∷◌, Some, refl, sym, ◌∙◌, ap, cond, ◌⊎◌, inl, inr}
 use Rattle.std.proofs.lemmas.Bool.{and_parts, and_from, or_left, or_right, or_cases}
 use Rattle.lists.proofs.Booleans.{or_swap}

@@ -1,4 +1,4 @@
--- No two passes of a board are equal.
+-- No two passes are equal in a list of passes that meets the requirements on passes (`ArePasses`).
 use Rattle.std.proofs.Common.{◌≡◌, ◌⊎◌, ℕ, zero, suc, ◌<◌, List, [], ◌∷◌, take, Some, inl, inr, arith}
 use Rattle.std.specs.Prelude.{slice_get}
 use Rattle.board_defs.specs.declared.board.Ctl.{Ctl}

@@ -140,7 +140,8 @@ reason_at board earlier (q ∷ passes) (suc x) pass h e =
     subst P (append_assoc earlier (q ∷ []) (take x passes))
     (reason_at board (earlier ++ q ∷ []) passes x pass h.1 e)
 
--- Properties of a list of passes that adding a pass preserves: every two controls of a pass are together, and each pass is needed.
+-- Properties of a list of passes that adding a pass preserves: for every two controls of a pass, the setting with just these two is safe,
+-- and each pass is needed.
 pub record Good (board : RawBoard) (passes : List (List Ctl)) : Type 0 where
   pub together : (pass : List Ctl) → Has passes pass → AllTogether board pass
   pub reasons : Reasons board [] passes
@@ -295,7 +296,7 @@ of_nets board nets h =
       second = of_net board a.high nets.1 a.at_high;
     }
 
--- two compatible tested drivers, one of each net
+-- two tested drivers, one of each net, that one safe setting enables together
 pub record Compatible (board : RawBoard) (a b : Net) (pair : Drive × Drive) : Type 0 where
   pub first : Tested board a pair.0
   pub second : Tested board b pair.1

@@ -1,5 +1,5 @@
--- Samples: functions of entries, pins of two devices, and the nets that these pins guard. The expected values follow from the standard's
--- rules for the boundary register.
+-- Samples: functions of entries, modes of ports, pins of devices, nets that these pins guard, switching drivers, safe values and disable
+-- values. The expected values follow from the definitions and from the standard's rules for the boundary register.
 use Rattle.std.proofs.Common.{◌≡◌, ℕ, ◌+◌, ◌==◌, Bool, true, false, List, [], ◌∷◌, map, Option, Some, None, refl}
 use Rattle.std.specs.Prelude.{codes}
 use Rattle.board_defs.specs.declared.device.Symbol.{Symbol}

@@ -1,4 +1,4 @@
--- Sample devices and boards, each of which breaks one rule.
+-- Sample devices and boards that break rules. Nearly every proof shows that one sample breaks one rule.
 use Rattle.std.proofs.Common.{◌≡◌, ◌≢◌, ◌⊎◌, ℕ, Bool, true, false, List, [], ◌∷◌, replicate, Option, Some, None, refl, inl, inr, arith}
 use Rattle.std.specs.Prelude.{codes}
 use Rattle.board_defs.specs.declared.device.Symbol.{Symbol}
@@ -135,7 +135,9 @@ of_cells mode cells = device (codes "Q" ∷ []) (of_port 1 mode (Some (codes "1"
 abbrev disabled : ℕ → Bool → Option Control
 disabled cell value = Some (record { cell = cell; disable = value })
 
--- a control must be the entry's own cell, or a cell with a CONTROL or CONTROLR entry
+-- A control must be the entry's own cell, or a cell with a CONTROL or CONTROLR entry. Entries with the same control must have the same
+-- disable value. A cell may have only one entry that defines what it captures, and only one for its update latch. A port bit may have only
+-- one driving entry.
 no_control_cell : ControlsStand (of_cells Both (entry 0 Output3 4 (by 1) ∷ entry 1 Input 5 None ∷ [])) → ⊥
 no_control_cell rules = let z : false ≡ true = rules 0 _ _ refl refl in cc z
 
@@ -212,7 +214,8 @@ twice_in_net rules =
     (record { on_board = refl; in_net = refl }) refl refl).1 in
     omega (arith, same)
 
--- a pin of a described part must have a place in the chain, and no pin of a part in the chain may be inert
+-- A pin of a described part must have a place in the chain. No pin of a part in the chain may be inert. The pins of one part must be all
+-- inert or all not inert.
 without_place : IsPlaced (pair []) (record (pin 1 0) { at = None }) None → ⊥
 without_place rules = let none = rules 1 (record { name = codes "U2"; kind = Bypass 2 }) (omega arith) refl in cc none
 

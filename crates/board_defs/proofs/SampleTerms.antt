@@ -1,5 +1,5 @@
--- Samples of settings, reasons, tested pins, passes and faults, on small boards. The expected values follow from the definitions of
--- the terms.
+-- Samples of settings, reasons, tested pins, passes and faults, on small boards, and of boards that break the rules on always-on drivers.
+-- The expected values follow from the definitions of the terms.
 use Rattle.std.proofs.Common.{◌≡◌, Bool, true, false, List, [], ◌∷◌, ◌++◌, map, Option, Some, None, refl, arith}
 use Rattle.std.specs.Prelude.{codes}
 use Rattle.board_defs.specs.declared.device.Mode.TheVariants.{Outward}
@@ -29,7 +29,7 @@ meeting supply more = board (ts ∷ rcv ∷ mixed ∷ []) (record (net 0 None (p
 abbrev reason : Bool → List NetPin → List (Option Reason)
 reason supply more = reasons (meeting supply more)
 
--- The control of the driver is safe alone. This is so if and only if the net is not guarded.
+-- The control of the three-state driver is safe alone. In the samples below, this is so if and only if the net is not guarded.
 abbrev usable : Bool → List NetPin → Bool
 usable supply more = is_safe_alone (meeting supply more) (c 0 1)
 
@@ -197,12 +197,12 @@ split_pairs = refl
 split_rules : IsBoard split
 split_rules = board_of split refl
 
--- In the first pass, the first walk adds the lower of the two bus drivers. In the second pass, the first walk adds no control, and the
+-- In the first pass, the first walk adds the control of part 1's bus driver. In the second pass, the first walk adds no control, and the
 -- second walk adds a control that the first pass has too.
 split_passes : passes_of split ≡ (c 0 1 ∷ c 1 1 ∷ []) ∷ (c 0 1 ∷ c 2 1 ∷ []) ∷ []
 split_passes = refl
 
--- The board of the device `four`, with one more driver on a net of its own. The first walk of the first pass
+-- The board `fours` with one more driver, on a net of its own. The first walk of the first pass
 -- adds this driver's control, and the second walks of the other two passes add it again.
 abbrev more_fours : RawBoard
 more_fours = board (four ∷ rcv ∷ rcv ∷ rcv ∷ ts ∷ []) (fours.nets ++ net 5 None (pin 4 0 ∷ pin 3 1 ∷ []) ∷ [])
@@ -255,7 +255,7 @@ couple_faults : singles couple ≡
     ∷ []
 couple_faults = refl
 
--- the single faults of a board with one net
+-- the single faults of the board `bus`, which has one net and therefore no shorts
 bus_faults : singles bus ≡
     StuckNet 0 false ∷ StuckNet 0 true ∷ OpenPin (at 0 0) false ∷ OpenPin (at 0 0) true
     ∷ OpenPin (at 0 1) false ∷ OpenPin (at 0 1) true ∷ OpenPin (at 0 2) false

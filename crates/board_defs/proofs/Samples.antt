@@ -189,7 +189,8 @@ shared_rules = board_of shared refl
 shared_passes : passes_of shared ≡ (c 1 1 ∷ []) ∷ []
 shared_passes = refl
 
--- a board with two buffers, a supply net that has a foreign pin, and a net for the clock of the test access port
+-- A board with two buffers, a supply net, and a net for the clock of the test access port. Each of the last two nets also has a pin of a
+-- part outside the chain.
 abbrev buffers : RawBoard
 buffers = board (buf2 ∷ buf2 ∷ []) (
     net 0 None (pin 0 4 ∷ pin 1 2 ∷ []) ∷ net 1 None (pin 0 3 ∷ pin 1 1 ∷ []) ∷ net 2 None (pin 0 0 ∷ pin 1 0 ∷ [])

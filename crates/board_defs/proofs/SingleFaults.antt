@@ -1,4 +1,4 @@
--- The list of single faults has exactly the board's single faults.
+-- The list of single faults has exactly the board's single faults, each once and in order.
 use Rattle.std.proofs.Common.{sym, ◌≡◌, ◌≢◌, ℕ, zero, suc, ◌+◌, ◌<◌, Bool, true, false, List, [], ◌∷◌, ◌++◌, length, Some, refl, ◌∙◌, ap, subst, arith, ◌⊎◌, inl, inr}
 use Rattle.std.specs.Prelude.{slice_get, filter, Contains, AllPairs}
 use Rattle.std.specs.List.{flat_map, enumerate_from, range_with_len}

@@ -1,5 +1,6 @@
 -- The terms of coverage: covered and paired nets, tested pins, useful controls, and the reasons why a net is not
--- covered. Most of the terms mean that there is a safe setting with some property.
+-- covered. Most of the terms mean that there is a safe setting with some property. `Settings.antt` defines safe
+-- settings and the nets that a setting observes. The place of a pin is its index in the net's list of pins.
 use Rattle.std.specs.Prelude.{◌≡◌, ◌≢◌, ◌<◌, ℕ, true, false, Some, None, slice_get}
 use Rattle.std.specs.List.{list_any}
 use Rattle.board_defs.specs.declared.board.NetPin.{NetPin}

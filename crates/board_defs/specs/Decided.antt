@@ -1,5 +1,6 @@
 -- Boolean tests for the terms that `Settings.antt` and `Coverage.antt` define. They do not list settings: they look only at single
--- controls and at pairs of controls. A law in `Laws.antt` says that the tests agree with the terms.
+-- controls and at pairs of controls. A law in `Laws.antt` says that the tests agree with the terms. `Pins.antt` defines guarded nets, and
+-- says how a driver is enabled: it is always on, or one-sided, or a control enables it.
 use Rattle.std.specs.Prelude.{ℕ, zero, suc, ◌==◌, Bool, true, false, not, ◌&&◌, ◌||◌, List, [], ◌∷◌, length, Option, Some, None, slice_get, is_some, option_and_then, cond}
 use Rattle.std.specs.List.{list_any, list_all}
 use Rattle.board_defs.specs.declared.device.Control.{Control}
@@ -40,14 +41,14 @@ is_always_on (Some AlwaysOn) = true
 is_always_on (Some OneSided) = false
 is_always_on (Some (By c)) = false
 
--- there is a driver, and control `c` enables it
+-- there is a driver that is neither always on nor one-sided, and control `c` enables it
 abbrev pub is_by : Ctl → Option Drive → Bool
 is_by c None = false
 is_by c (Some AlwaysOn) = false
 is_by c (Some OneSided) = false
 is_by c (Some (By d)) = same_ctl d c
 
--- the control enables a driver of the net
+-- the control enables a driver of the net that is not one-sided
 abbrev pub drives_net : RawBoard → Ctl → Net → Bool
 drives_net board c net = list_any (λ p. is_by c (drive board net p)) net.pins
 
@@ -56,7 +57,7 @@ abbrev pub is_closed : RawBoard → Net → Bool
 is_closed board net = guarded board net || list_any (λ p. is_always_on (drive board net p)) net.pins
 
 -- As far as this net is concerned, a safe setting may have the control: the control enables at most one driver of the net, and none if
--- the net is closed.
+-- the net is closed. One-sided drivers do not count here: `is_safe_alone` tests them for the whole board.
 abbrev pub admits : RawBoard → Ctl → Net → Bool
 admits board c net = at_most_one (λ p. is_by c (drive board net p)) net.pins && not (drives_net board c net && is_closed board net)
 
@@ -82,8 +83,8 @@ own_where cell (Some control) = cond (control.cell == cell.num) (Some control) N
 abbrev pub own_control : RawBoard → PinAt → Option Control
 own_control board at = option_and_then (λ cell. own_where cell cell.ctl) (entry_at board at)
 
--- The driver at `at` is one-sided, and its control is cell number `cell`. The last argument is the driver's
--- control. It is None if the control is not the driver's own cell, or if the driver has no control.
+-- The driver at `at` is one-sided, and its control is cell number `cell`. The last argument is the driver's control
+-- if that control is the driver's own cell, and None otherwise (for example if there is no driver at `at`).
 abbrev pub is_one_sided_by : RawBoard → ℕ → PinAt → Option Control → Bool
 is_one_sided_by board cell at None = false
 is_one_sided_by board cell at (Some control) = (control.cell == cell) && is_pinned board at && not (is_switching board at control.disable)
@@ -108,7 +109,7 @@ enables_one_sided board c =
 abbrev pub is_safe_alone : RawBoard → Ctl → Bool
 is_safe_alone board c = list_all (admits board c) board.nets && not (enables_one_sided board c)
 
--- the two controls enable drivers of one net
+-- the two controls enable drivers of one net, and these drivers are not one-sided
 abbrev pub share_net : RawBoard → Ctl → Ctl → Bool
 share_net board a b = list_any (λ net. drives_net board a net && drives_net board b net) board.nets
 

@@ -153,7 +153,7 @@ abbrev pub is_control_of : ℕ → Option Control → Bool
 is_control_of cell None = false
 is_control_of cell (Some control) = control.cell == cell
 
--- the disable value of an entry's control, if the entry has a control
+-- the disable value of the entry's control, or None if there is no entry or the entry has no control
 abbrev pub disable_in : ℕ → Option Cell → Option Bool
 disable_in cell None = None
 disable_in cell (Some entry) = option_map (λ control. control.disable) entry.ctl

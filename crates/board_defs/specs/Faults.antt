@@ -1,4 +1,5 @@
--- The single faults of a board and their order.
+-- The single faults of a board and their order. `Coverage.antt` defines covered nets, paired nets, tested drivers and tested receivers. The
+-- place of a pin is its index in the net's list of pins.
 use Rattle.std.specs.Prelude.{◌≡◌, ◌<◌, ◌⊎◌, ℕ, Bool, true, false, ◌||◌, List, [], ◌∷◌, ◌++◌, map, filter, length}
 use Rattle.std.specs.List.{flat_map, enumerate_from, range_with_len}
 use Rattle.board_defs.specs.declared.board.Net.{Net}

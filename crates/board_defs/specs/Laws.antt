@@ -45,7 +45,7 @@ pub record DecidesTerms (board : RawBoard) : Type 0 where
 abbrev pub TermsDecided : Type 0
 TermsDecided = (board : RawBoard) → IsBoard board → DecidesTerms board
 
--- net number `n` has a tested driver, and `d` is the way in which it is enabled
+-- net number `n` has a tested driver, and `d` is the way in which this driver is enabled
 pub record HasTestedDriver (board : RawBoard) (n : ℕ) (net : Net) (d : Drive) : Type 0 where
   pub place : ℕ
   pub pin : NetPin

@@ -1,5 +1,5 @@
--- The bytes of a name. `Short` has at most 24 bytes in the value itself: the first `count` of them are the
--- name's. `Long` has the bytes in a vector.
+-- The bytes of a name. `Short` has an array of 24 bytes in the value itself, and the first `count` bytes of the
+-- array are the name's bytes. `Long` has the name's bytes in a vector.
 use Rattle.std.specs.Prelude.{List, ℕ, take, ◌≤◌, ⊤}
 use Rattle.board_defs.specs.declared.name.Kept.{Kept}
 use Rattle.board_defs.specs.declared.name.Kept.TheVariants.{Short, Long}
@@ -8,7 +8,7 @@ abbrev pub kept_bytes : Kept → List ℕ
 kept_bytes (Short bytes count) = take count bytes
 kept_bytes (Long bytes) = bytes.items
 
--- `Short` has at most the 24 bytes that fit in the value itself
+-- in a `Short`, `count` is at most 24, the length of the array; a `Long` can have any number of bytes
 abbrev pub FitsInPlace : Kept → Type 0
 FitsInPlace (Short bytes count) = count ≤ 24
 FitsInPlace (Long bytes) = ⊤

@@ -1,5 +1,5 @@
 -- The passes of a board: the settings in which its test runs, in turn. The first ones together enable every tested driver. Later ones are
--- added until, for every two paired nets, some pass observes both.
+-- added until, for every two paired nets, some pass observes both. `Coverage.antt` defines tested drivers and paired nets.
 use Rattle.std.specs.Prelude.{◌≡◌, ◌⊎◌, ℕ, Bool, true, false, not, ◌&&◌, List, [], ◌∷◌, ◌++◌, map, filter, filter_map, find, fold, take, length, Option, Some, None, slice_get, cond}
 use Rattle.std.specs.List.{list_any, list_all, flat_map, enumerate_from, range_with_len}
 use Rattle.board_defs.specs.declared.board.PartKind.{PartKind}
@@ -26,7 +26,7 @@ all_cells board = flat_map (λ part. cells_of part.0 part.1.kind) (enumerate_fro
 abbrev pub useful_controls : RawBoard → List Ctl
 useful_controls board = filter (is_useful board) (all_cells board)
 
--- the way in which the driver at `place` is enabled, if that driver is tested
+-- the way in which the driver at `place` of the net is enabled, or None if no tested driver is at that place
 abbrev pub tested_drive : RawBoard → Net → ℕ → Option Drive
 tested_drive board net place = cond (is_tested_driver board net place) (place_drive board net place) None
 
@@ -34,19 +34,19 @@ tested_drive board net place = cond (is_tested_driver board net place) (place_dr
 abbrev pub tested_drivers : RawBoard → Net → List Drive
 tested_drivers board net = filter_map (tested_drive board net) (range_with_len 0 (length net.pins))
 
--- the setting enables the driver
+-- The setting enables the driver. A one-sided driver counts as not enabled, since no safe setting enables it.
 abbrev pub is_enabled : List Ctl → Drive → Bool
 is_enabled setting AlwaysOn = true
 is_enabled setting OneSided = false
 is_enabled setting (By c) = holds setting c
 
--- the setting with the driver's control added, or the setting itself if no control enables the driver
+-- the setting with the driver's control added, or the setting itself if the driver is always on or one-sided
 abbrev pub with_driver : List Ctl → Drive → List Ctl
 with_driver setting AlwaysOn = setting
 with_driver setting OneSided = setting
 with_driver setting (By c) = inserted c setting
 
--- every control of the setting is together with control `c`
+-- Every control of the setting is together with control `c`. Two controls are together if the setting with just these two is safe.
 abbrev pub joins_setting : RawBoard → List Ctl → Ctl → Bool
 joins_setting board setting c = list_all (are_together board c) setting
 

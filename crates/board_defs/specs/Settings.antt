@@ -1,4 +1,5 @@
--- Settings: the drivers that a setting enables, the nets that it observes, and when it is safe.
+-- Settings: the drivers that a setting enables, the nets that a setting observes, and the conditions under which a setting is safe.
+-- `Pins.antt` defines drivers, receivers and guarded nets.
 use Rattle.std.specs.Prelude.{◌≡◌, ◌≢◌, ℕ, nat_lt, cond, ◌==◌, Bool, true, false, ◌&&◌, ◌||◌, List, [], ◌∷◌, Option, Some, None, slice_get, AllPairs, IsTrue}
 use Rattle.std.specs.List.{list_any}
 use Rattle.board_defs.specs.declared.device.Control.{Control}
@@ -76,7 +77,8 @@ SwitchesAt board at value =
     × (net.pull ≡ Some value)
 
 -- Each net has at most one enabled driver. No controlled driver of a guarded net is enabled. Each enabled driver whose control is its own
--- cell is a switching driver. So no one-sided driver is enabled, whether or not it is on a net.
+-- cell is a switching driver: its net is unguarded and is pulled to the cell's disable value. So no one-sided driver, that is, no other
+-- driver whose control is its own cell, is enabled, whether or not the driver is on a net.
 pub record IsSafe (board : RawBoard) (setting : Enabling) : Type 0 where
   pub one : (n : ℕ) (net : Net) (i j : ℕ) (p q : NetPin) → slice_get board.nets n ≡ Some net
       → slice_get net.pins i ≡ Some p → slice_get net.pins j ≡ Some q → i ≢ j

@@ -148,8 +148,8 @@ impl Board {
     }
 
     /// Returns whether the net is guarded: it carries a supply, or has a pin of a test access port, a pin that
-    /// compliance patterns name, or a dark pin. On a guarded net, only drivers that are always on may be enabled. The
-    /// board must have a net with this number.
+    /// compliance patterns name, or a dark pin. If a pin is dark, something that no setting controls may drive its net.
+    /// On a guarded net, only drivers that are always on may be enabled. The board must have a net with this number.
     pub fn is_guarded(&self, net: u32) -> bool
         requires { net < length self.now.nets }
         ensures { result ≡ guarded_at self.now net }

@@ -1,4 +1,5 @@
-// The reasons why a net is not covered.
+// The reasons why a net is not covered. A net is covered if some safe setting enables a driver of the net, another pin
+// of the net is a receiver, and none of the reasons `Supply`, `TestPort` and `Dark` applies.
 
 /// The reason why a net is not covered. If several reasons apply, the first in this order counts.
 #[derive(Clone, Copy)]
@@ -13,7 +14,7 @@ pub enum Reason {
     NoDriver,
     /// No safe setting enables a driver on the net.
     Blocked,
-    /// No driver of the net that some safe setting enables has a receiver on another pin of the
-    /// net.
+    /// For each driver of the net that some safe setting enables, no other pin of the net is a
+    /// receiver.
     NoReceiver,
 }

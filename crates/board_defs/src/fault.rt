@@ -14,8 +14,8 @@ pub enum Kind {
 }
 
 /// A single fault. The fields `net`, `a` and `b` are numbers of nets. A stuck net has the bit `value`. If a receiver's
-/// pin is open, the receiver reads `value`. If an enabled driver's pin is open, its net has the value of its pull, or
-/// `value` if it is not pulled.
+/// pin is open, the receiver reads `value`. If an enabled driver's pin is open, the net has the value to which it is
+/// pulled, or `value` if the net has no pull.
 #[derive(Clone, Copy)]
 pub enum Single {
     StuckNet { net: u32, value: bool },

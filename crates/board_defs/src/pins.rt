@@ -230,7 +230,7 @@ impl RawBoard {
         }
     }
 
-    /// Returns whether the chosen pin map assigns a pin to the port bit.
+    /// Returns whether there is a port bit at `at` and the chosen pin map assigns a pin to it.
     pub fn is_pinned(&self, at: PinAt) -> bool
         ensures { result ≡ is_pinned self.now at }
     {

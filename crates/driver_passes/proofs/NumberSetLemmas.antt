@@ -168,7 +168,7 @@ one_number number n =
         ap (λ t. t && n % 64 == number % 64) (ne_eqb (n / 64) (number / 64) differs)
         ∙ sym (ne_eqb n number (λ one. differs (ap (λ k. k / 64) one)))
 
--- The mask has the bits from `place` on.
+-- the mask keeps the bits of the word from `place` on
 high_bit : (word place i : ℕ) → place < 64 → place ≤ i → i < 64
     → bit_at (bit_and word ((2 ^ 64 - 1) * 2 ^ place % 2 ^ 64)) i ≡ bit_at word i
 high_bit word place i below from within =

@@ -42,7 +42,7 @@ taken_out = refl
 of_one_word : filter (is_of_word 1 5) (range_with_len 0 192) ≡ 64 ∷ 66 ∷ []
 of_one_word = refl
 
--- the numbers of word 0 with its first and its last bit
+-- the first and the last bit of word 0 are the bits of the numbers 0 and 63
 ends_of_word : filter (is_of_word 0 (2 ^ 63 + 1)) (range_with_len 0 192) ≡ 0 ∷ 63 ∷ []
 ends_of_word = refl
 
@@ -59,7 +59,7 @@ some_blocks =
 of_blocks : filter (has_place some_blocks) (range_with_len 0 192) ≡ 0 ∷ 1 ∷ 130 ∷ 191 ∷ []
 of_blocks = refl
 
--- three rows of different lengths; the second row has only word 0, so its other words are 0
+-- three rows of different lengths; the second row has only word 0, so `words_at` gives 0 for any other word of this row
 abbrev some_rows : List (List ℕ)
 some_rows = (5 ∷ 6 ∷ []) ∷ (7 ∷ []) ∷ (8 ∷ 9 ∷ 10 ∷ []) ∷ []
 

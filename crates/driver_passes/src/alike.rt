@@ -44,8 +44,8 @@ fn like_of(board: &BoardClasses<'_>, other: usize, net: usize) -> usize
 }
 
 /// Returns, for each net, an earlier net with an equal list of tested drivers, or the net itself. Compares a
-/// net with at most one earlier net, and only if its first tested driver has a control. The earlier net is
-/// the latest one whose first tested driver has the same control, or net 0 if there is none.
+/// net with at most one earlier net, and only if the first tested driver of the net has a control. The
+/// earlier net is the latest one whose first tested driver has the same control, or net 0 if there is none.
 pub fn likes_of(alloc: Global, board: &BoardClasses<'_>) -> Result<Vec<u32>, AllocError>
     ensures { IfOk result (λ likes. AreAlike board.now likes.items) }
 {

@@ -14,7 +14,7 @@ pub struct Column {
     pub words: Vec<u64>,
 }
 
-/// Returns word `number` of each row.
+/// Returns word `number` of each row, or 0 for a row that has no such word.
 fn words_of(alloc: Global, rows: &[NumberSet], number: usize) -> Result<Vec<u64>, AllocError>
     ensures { IfOk result (λ words. words.items ≡ words_at number rows.now) }
 {

@@ -68,7 +68,8 @@ impl<'a, 'b> Draft<'a, 'b> {
         self.free.remove(place);
     }
 
-    /// Adds the control of the driver, if the driver has a control. That control must be useful.
+    /// Adds the control that enables the driver. This control must be useful. Does nothing if the driver is always on
+    /// or one-sided.
     pub fn add_driver(&mut self, d: Drive)
         requires { IsUsefulDriver self.old.board d }
         ensures { self.new ≡ drafted self.old.board (with_driver self.old.setting d) }

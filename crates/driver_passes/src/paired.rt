@@ -11,8 +11,8 @@ use crate::number_set::{NumberSet, next_in};
 use board_defs::Drive;
 use net_classes::BoardClasses;
 
-/// Returns the first driver in `drivers` that one safe setting enables together with `d`, or None if there is none. The
-/// control of each of these drivers, if it has one, must be useful.
+/// Returns the first driver in `drivers` that one safe setting enables together with `d`, or None if there is none. If
+/// `d` or a driver in `drivers` has a control, that control must be useful.
 fn first_fitting(board: &BoardClasses<'_>, d: Drive, drivers: &[Drive]) -> Option<Drive>
     requires driver { IsUsefulDriver board.now d }
     requires drivers { All (IsUsefulDriver board.now) drivers.now }

@@ -96,7 +96,7 @@ fn nets_by_control(alloc: Global, board: &BoardClasses<'_>) -> Result<Vec<NetNum
 }
 
 impl TestedNets {
-    /// Finds these nets for the board.
+    /// Finds the nets that the useful controls of the board test, and the nets with a tested driver that is always on.
     pub fn new(alloc: Global, board: &BoardClasses<'_>) -> Result<TestedNets, AllocError>
         ensures { IfOk result (λ nets. AreTestedNets board.now nets) }
     {

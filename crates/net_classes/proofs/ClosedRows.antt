@@ -1,7 +1,7 @@
 -- Lemmas about the row of a control, that is, the nets that some safe setting with the control observes. The shared nets of a control are
 -- the nets with a driver of this control and a driver of another control. A list of nets closes a covered net if each tested driver of this
--- net has a control with a driver on a net in the list. If a control is safe alone, its row has each covered net, except those that its
--- shared nets close and on which it has no tested driver.
+-- net has a control with a driver on a net in the list. If control `c` is safe alone, the row of `c` has each covered net, except the nets
+-- that the shared nets of `c` close and on which `c` has no tested driver.
 use Rattle.std.proofs.Common.{◌≡◌, inl, inr, ℕ, ◌+◌, ◌/◌, ◌<◌, ◌==◌, Bool, true, false, not, ◌&&◌, ◌||◌, List, [], ◌∷◌, Contains, Decides, length, slice_index_or, nat_lt, Option, Some, None, refl, sym, ◌∙◌, ap, subst, arith, All}
 use Rattle.std.specs.Prelude.{slice_get, filter}
 use Rattle.std.specs.List.{list_any, list_all}
@@ -197,7 +197,7 @@ room_for board nets closed failing q size are e room k d less =
 pub useful_safe : (board : RawBoard) (c : Ctl) → is_useful board c ≡ true → is_safe_alone board c ≡ true
 useful_safe board c h = and_left (is_safe_alone board c) (list_any (tests_by board c) board.nets) h
 
--- if a useful control shares no net, its row is the row of the covered nets
+-- if a useful control shares no net with another control, its row is the row of the covered nets
 pub row_free : (board : RawBoard) (c : Ctl) (row : List ℕ) → is_useful board c ≡ true
     → shared_nets board c ≡ [] → AreRowBits (fits_at board AlwaysOn) row
     → AreRowBits (fits_at board (By c)) row

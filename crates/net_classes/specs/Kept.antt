@@ -1,5 +1,6 @@
 -- The contents of a board's classes, that is, what its nets, pins and controls can do in safe settings. Facts that depend on safe
--- settings are the results of Boolean tests such as `is_useful`.
+-- settings are the results of Boolean tests such as `is_useful`. A net is covered if some safe setting observes it. Two nets are paired if
+-- one safe setting observes both.
 use Rattle.std.specs.Prelude.{◌≡◌, ℕ, true, List, [], map, Option, Some, None, slice_index_or}
 use Rattle.board_defs.specs.declared.board.Ctl.{Ctl}
 use Rattle.board_defs.specs.declared.board.RawBoard.{RawBoard}

@@ -23,8 +23,8 @@ abbrev pub HaveCommon : List ℕ → List ℕ → Type 0
 HaveCommon xs ys = (n : ℕ) × Contains xs n × Contains ys n
 
 -- Two controls have drivers on one net if and only if their lists of driven nets have a number in common. For two different controls, the
--- same is true of their lists of shared nets. The driven nets of a control are the nets with a driver that it enables. The shared nets
--- are those of them that also have a driver of another control.
+-- same is true of their lists of shared nets. The driven nets of a control are the nets with a driver of this control. The shared nets of a
+-- control are its driven nets that also have a driver of another control. One-sided drivers do not count as drivers of a control.
 pub record SaysShared (board : RawBoard) (a b : Ctl) : Type 0 where
   pub by_driven : Decides (share_net board a b) (HaveCommon (driven_nets board a) (driven_nets board b))
   pub by_shared : same_ctl a b ≡ false → Decides (share_net board a b) (HaveCommon (shared_nets board a) (shared_nets board b))

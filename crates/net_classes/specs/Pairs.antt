@@ -39,7 +39,7 @@ pair_there board (Some a) (Some b) = are_paired board a b
 abbrev pub pairs_with : RawBoard → ℕ → ℕ → Bool
 pairs_with board a b = pair_there board (slice_get board.nets a) (slice_get board.nets b)
 
--- there is a net, and it is covered
+-- there is a net, and it is covered, that is, some safe setting observes the net
 abbrev pub covered_there : RawBoard → Option Net → Bool
 covered_there board None = false
 covered_there board (Some net) = is_covered board net

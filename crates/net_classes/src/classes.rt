@@ -11,8 +11,9 @@ use net_pins::{BoardPins, PinTables};
 use std::alloc::{AllocError, Global};
 
 /// The classes of a board: the facts about its nets, pins and controls that depend on safe settings. There is a class
-/// for each net and for each boundary cell, taken as a control. There are also the useful controls, the nets that each
-/// control shares with another control, and rows of bits that say which nets are paired.
+/// for each net and for each boundary cell, taken as a control. There are also the useful controls (each is safe alone
+/// and enables a tested driver), the nets that each control shares with another control, and rows of bits that say
+/// which nets are paired. Two nets are paired if one safe setting observes both.
 #[derive(Drop)]
 pub struct Classes {
     pub(crate) nets: Vec<NetClass>,

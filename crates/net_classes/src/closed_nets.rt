@@ -262,7 +262,8 @@ pub struct ClosedNets {
     pub(crate) by: NetNumbers,
     pub(crate) set: ControlSet,
     pub(crate) nets: NetNumbers,
-    /// A set that each call fills with the controls of the other nets. It is kept so that the next call reuses its memory.
+    /// A set that `closed_by` clears and fills again. It is kept here only so that the next call can reuse the memory
+    /// of the set.
     pub(crate) others: ControlSet,
 }
 

@@ -38,7 +38,7 @@ impl<'a> Model for Known<'a> {
         × (a.firsts.items ≡ map (λ net. slice_get net.drivers 0) a.facts.now.nets.items) };
 }
 
-/// Returns whether the control `c` enables the driver.
+/// Returns whether there is a driver that is neither always on nor one-sided, and control `c` enables it.
 pub fn is_by(c: Ctl, drive: Option<Drive>) -> bool
     ensures { result ≡ is_by c drive }
 {
@@ -159,7 +159,8 @@ impl<'a> Known<'a> {
         self.facts.shared[c.part as usize][c.cell as usize].as_slice()
     }
 
-    /// Returns whether the control enables the net's first tested driver.
+    /// Returns whether the control enables the net's first tested driver. Returns false if the net has no tested driver
+    /// or if no net has this number.
     pub fn is_first(&self, c: Ctl, net: u32) -> bool
         ensures { result ≡ is_by c (slice_get (drivers_at self.now.board net) 0) }
     {

@@ -4,7 +4,8 @@ ghost use Rattle.net_classes.specs.Laws.{NetsAreShared, PairsHaveDrivers};
 
 /// Two controls have drivers on one net if and only if their lists of driven nets have a number in common. For two
 /// different controls, the same is true of their lists of shared nets. The driven nets of a control are the nets with a
-/// driver that it enables. The shared nets are those of them that also have a driver of another control.
+/// driver of this control. The shared nets of a control are its driven nets that also have a driver of another control.
+/// One-sided drivers do not count as drivers of a control.
 pub fn nets_are_shared()
     ensures { NetsAreShared }
 {}

@@ -1,4 +1,6 @@
-// Rows of bits with one bit for each net, 64 to a word. The rows of a net's tested drivers say which nets are paired with the net.
+// Rows of bits with one bit for each net, 64 to a word. The rows of a net's tested drivers say which nets are paired
+// with the net. Two nets are paired if one safe setting observes both. A net is covered if some safe setting observes
+// it.
 ghost use Rattle.std.specs.Prelude.{◌≡◌, ◌<◌, ◌+◌, ◌/◌, ◌++◌, ℕ, Bool, true, false, not, ◌&&◌, filter, length, slice_index, is_some, All, IfOk, OnOk};
 ghost use Rattle.std.specs.Option.{option_to_list};
 ghost use Rattle.board_defs.specs.declared.board.Drive.TheVariants.{AlwaysOn};

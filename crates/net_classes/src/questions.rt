@@ -136,7 +136,7 @@ impl<'a> BoardClasses<'a> {
         &self.classes.useful
     }
 
-    /// Returns the place of the control among the useful controls, or None if it is not useful.
+    /// Returns the place of the control in the list of useful controls, or None if the control is not useful.
     pub fn place_of(&self, c: Ctl) -> Option<usize>
         ensures { MatchOption result (holds (useful_controls self.now) c ≡ false)
             (λ place. slice_get (useful_controls self.now) place ≡ Some c) }
@@ -175,7 +175,8 @@ impl<'a> BoardClasses<'a> {
         first && second && self.are_apart(a, b)
     }
 
-    /// Returns whether one safe setting enables both drivers. Their controls must be boundary cells of the board.
+    /// Returns whether one safe setting enables both drivers. If a driver has a control, the control must be a boundary
+    /// cell of the board.
     pub fn fit(&self, d: Drive, e: Drive) -> bool
         requires first { IsByCell self.now d }
         requires second { IsByCell self.now e }
@@ -273,7 +274,8 @@ impl Classes {
         BoardClasses::of(board, self).are_together(a, b)
     }
 
-    /// Returns whether some safe setting enables the driver and observes its net.
+    /// Returns whether the pin is a tested driver, that is, whether some safe setting observes the pin's net by this
+    /// driver.
     pub fn driver_tested(&self, board: &Board, pin: PinRef) -> bool
         requires classes { AreClasses board.now self.now }
         requires pin { IsOnBoard board.now pin }
@@ -286,7 +288,8 @@ impl Classes {
         BoardClasses::of(board, self).pin(pin).driver_tested
     }
 
-    /// Returns whether some safe setting observes the receiver's net by a driver on another pin.
+    /// Returns whether the pin is a tested receiver, that is, a receiver for which some safe setting observes the pin's
+    /// net by a driver on another pin.
     pub fn receiver_tested(&self, board: &Board, pin: PinRef) -> bool
         requires classes { AreClasses board.now self.now }
         requires pin { IsOnBoard board.now pin }

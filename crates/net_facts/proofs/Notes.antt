@@ -147,7 +147,8 @@ by_pin c pin = is_by c pin.drive
 abbrev row_with : ControlClass → List ℕ → Bool → ControlClass
 row_with row nets safe = record { nets = nets; safe = safe; useful = row.useful }
 
--- If a control already has net `n`, further drivers on this net make it unsafe and change nothing else.
+-- If net `n` is the last net of a control already, further drivers of this control on net `n` make the control unsafe and change nothing
+-- else.
 pub run_again : (n : ℕ) (closed : Bool) (c : Ctl) (pins : List PinFacts) (row : ControlClass)
     → ends_with row.nets n ≡ true
     → run n closed c pins row ≡ row_with row row.nets (row.safe && not (list_any (by_pin c) pins))

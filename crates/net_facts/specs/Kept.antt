@@ -18,7 +18,7 @@ use Rattle.net_facts.specs.declared.classes.BoardFacts.{BoardFacts}
 use Rattle.net_facts.specs.Cells.{item_of_cell, table}
 use Rattle.net_facts.specs.Facts.{net_facts_of}
 
--- there is a net, and control `c` controls a driver of it
+-- There is a net, and control `c` enables a driver of the net. Here and below, one-sided drivers do not count as drivers of a control.
 abbrev pub drives_there : RawBoard → Ctl → Option Net → Bool
 drives_there board c None = false
 drives_there board c (Some net) = drives_net board c net
@@ -27,7 +27,7 @@ drives_there board c (Some net) = drives_net board c net
 abbrev pub driven_nets : RawBoard → Ctl → List ℕ
 driven_nets board c = filter (λ n. drives_there board c (slice_get board.nets n)) (range_with_len 0 (length board.nets))
 
--- there is a driver, and it has a control other than `c`
+-- there is a driver that is neither always on nor one-sided, and its control is not `c`
 abbrev pub is_by_other : Ctl → Option Drive → Bool
 is_by_other c None = false
 is_by_other c (Some AlwaysOn) = false

@@ -41,7 +41,7 @@ pub struct NetClass {
 /// The facts about a control.
 #[derive(Drop)]
 pub struct ControlClass {
-    /// The numbers of the nets with a driver of this control, in net order.
+    /// The numbers of the nets with a driver of this control, in net order. One-sided drivers do not count.
     pub nets: NetNumbers,
     /// True if the setting with this control alone is safe.
     pub safe: bool,

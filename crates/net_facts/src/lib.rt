@@ -6,7 +6,8 @@
 //! - for each net: whether it is covered, the reason if it is not, and the ways in which its tested drivers are
 //!   enabled;
 //! - for each pin: whether it is a driver or a receiver, and in which of these roles it is tested;
-//! - for each control: the nets with its drivers, whether it is safe alone, and whether it is useful;
+//! - for each control: the nets with drivers of the control, whether the control is safe alone (the setting with only
+//!   this control is safe), and whether it is useful (safe alone, and it enables a tested driver);
 //! - for each control: the nets that it shares with another control. Two controls that are safe alone can be unsafe
 //!   together only if they share a net.
 //!

@@ -1,6 +1,6 @@
 // A board with tables of the port bits that are on pulled nets. The tables decide which drivers are one-sided: a driver
 // whose control is its own cell is one-sided unless it is on an unguarded net that is pulled to the driver's disable
-// value.
+// value. `NetFacts` says when a net is guarded.
 ghost use Rattle.std.specs.Prelude.{◌≡◌, ◌<◌, length, map, option_and_then, IfOk};
 ghost use Rattle.board_defs.specs.BoardRules.{IsBoard};
 ghost use Rattle.board_defs.specs.Decided.{is_switching, own_control, own_where, count_port_bits};

@@ -1,4 +1,5 @@
-// The port bits whose pins are on unguarded nets that are pulled to a given value.
+// The port bits whose pins are on unguarded nets that are pulled to a given value. `NetFacts` says when a net is
+// guarded.
 ghost use Rattle.std.specs.Prelude.{◌≡◌, false, fold, replicate, IfOk};
 ghost use Rattle.board_defs.specs.Pins.{described};
 ghost use Rattle.board_defs.specs.Decided.{bit_count};

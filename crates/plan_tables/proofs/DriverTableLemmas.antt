@@ -1,4 +1,5 @@
--- Lemmas about the cells that the table of driver cells contains for the controls of a pass.
+-- Lemmas about the cells that the table of driver cells contains for the controls of a pass. An observer is a driver by
+-- which its net can be observed.
 use Rattle.std.proofs.Common.{◌≡◌, ℕ, ◌<◌, ◌≤◌, true, List, [], ◌∷◌, ◌++◌, length, get_or, set, replicate, Option, Some, None, refl, sym, ap, ◌∙◌, subst, arith, length-set, ◌⊎◌, inl, inr}
 use Rattle.std.specs.Prelude.{filter, is_none}
 use Rattle.std.specs.List.{flat_map}

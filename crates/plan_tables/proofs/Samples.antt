@@ -64,7 +64,8 @@ codes = record {
     each (suc (suc (suc (suc zero)))) less = refl
     each (suc (suc (suc (suc (suc n))))) less = absurd (omega (arith, less))
 
--- an observer of a net with this control; its cell has the number of the net as its position
+-- A driver by which net number `net` can be observed (an observer). `control` is the position of its control, if it has one. The position
+-- of the driver's own cell is the number of the net.
 abbrev driver : ℕ → Option ℕ → Observer
 driver net control = record { control = control; cell = record { net = net; place = 0; position = net } }
 

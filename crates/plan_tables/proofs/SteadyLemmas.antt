@@ -1,4 +1,5 @@
--- Lemmas about the steady driver cells, which are driver cells of every pass, and about the cells of each pass.
+-- Lemmas about the steady driver cells, which are driver cells of every pass, and about the cells of each pass. An observer is a driver by
+-- which its net can be observed.
 use Rattle.std.proofs.Common.{◌≡◌, ℕ, suc, ◌<◌, ◌≤◌, ◌==◌, nat_lt, Bool, true, false, not, cond, ◌&&◌, List, [], ◌∷◌, ◌++◌, length, map, get_or, set, replicate, Option, Some, None, refl, sym, ap, ◌∙◌, subst, arith, length-set, ◌⊎◌, inl, inr}
 use Rattle.std.specs.Prelude.{slice_get, filter, Contains}
 use Rattle.std.specs.List.{flat_map}

@@ -28,7 +28,8 @@ pub use Rattle.net_pins.specs.Positions.{first_position, AreFirsts}
 abbrev pub control_position : RawBoard → Ctl → ℕ
 control_position board c = first_position board c.part + c.cell
 
--- `h` is the cell of a control of the pass, with the opposite of its disable value
+-- `h` is the cell of a control of the pass. Its bit is the opposite of the disable value of this cell, or 1 if no entry has this cell as
+-- its control.
 pub record IsHeldCell (board : RawBoard) (pass : List Ctl) (h : HeldCell) : Type 0 where
   pub control : Ctl
   pub is_held : holds pass control ≡ true
@@ -64,16 +65,17 @@ pub record IsReaderCell (board : RawBoard) (net : Net) (r : ReaderCell) : Type 0
   pub reads : reads_bit at.bit entry ≡ true
   pub position_is : r.position ≡ first_position board at.part + entry.num
 
--- the cells of a pass that are not the same in all passes: the cells of its controls, and its driver cells that are not steady
+-- The cells of the controls of a pass, and those driver cells of the pass that are not steady. A steady driver cell is a driver cell of
+-- every pass, and a plan lists it only once.
 pub record PassCells : Type 0 where
   pub held : List HeldCell
   pub drivers : List DriverCell
 
--- the cell of a control, with the opposite of its bit in the quiet row
+-- the cell of a control, with the opposite of the cell's bit in the quiet row
 abbrev pub held_cell : RawBoard → List Bool → Ctl → HeldCell
 held_cell board quiet c = record { position = control_position board c; bit = not (slice_index_or quiet (control_position board c) false) }
 
--- the driver cells of a control
+-- the driver cells of control `c`; `rows` has a list of driver cells for the position of each control
 abbrev pub controlled : RawBoard → List (List DriverCell) → Ctl → List DriverCell
 controlled board rows c = slice_index_or rows (control_position board c) []
 

@@ -12,10 +12,10 @@ use bt_bits::Row;
 use net_pins::cell_position;
 use std::alloc::{AllocError, Global};
 
-/// Returns the position of a control's cell, and the bit that enables the control's drivers. This is the opposite of
-/// the cell's bit in the quiet row, which disables every driver that has a control. `firsts` must have the position of
-/// each part's first bit in data scans, and `quiet` must be as long as a data scan. The control must be a cell of its
-/// part.
+/// Returns the position of a control's cell, and the opposite of the cell's bit in `quiet`. If `quiet` is the quiet
+/// row, which disables every driver that has a control, this opposite bit enables the control's drivers. `firsts` must
+/// have the position of each part's first bit in data scans, and `quiet` must be as long as a data scan. The control
+/// must be a cell of its part.
 pub fn held_cell(board: &Board, firsts: &[u32], quiet: &Row, c: Ctl) -> HeldCell
     requires firsts { AreFirsts board.now.chain firsts.now }
     requires quiet { length quiet.now.bits ≡ data_bits board.now }

@@ -5,7 +5,7 @@
 //!
 //! - the two instruction scans and the quiet row, which disables every driver that has a control;
 //! - the positions of the cells at which the data rows differ from the quiet row;
-//! - for each net, its code, its drivers and the cells that read it.
+//! - for each net, its code, the cells that read the net and, if the net is not guarded, its drivers.
 //!
 //! The other public functions find the cells of a pass in these tables. `scan_planner` uses these cells to fill the
 //! scans.

@@ -64,8 +64,8 @@ fn push_observers(
     Ok(())
 }
 
-/// Returns the drivers by which the nets of a board can be observed, in net order. `nets` must be the tables of the
-/// board's nets.
+/// Returns the drivers by which the nets of a board can be observed, in net order. A guarded net has no such driver.
+/// `nets` must be the tables of the board's nets.
 pub fn observers_of_nets(
     alloc: Global,
     placed: &PlacedBoard,

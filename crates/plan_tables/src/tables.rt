@@ -40,8 +40,8 @@ pub struct PassTables {
 /// The tables of a plan. The instruction scans, the quiet row and the steady driver cells are the same in all
 /// passes. To find the other cells of a pass, look up its controls in `firsts` (the position of each part's
 /// first bit in data scans) and in `by_control` (the driver cells of each control). `codes` has the code of
-/// each net, or 0 for a net that no pass observes. `nets` has the drivers and the compared cells of each net.
-/// `width` is the number of bits of a code.
+/// each net, or 0 for a net that no pass observes. `nets` has the compared cells of each net, and the drivers
+/// of each net that is not guarded. `width` is the number of bits of a code.
 #[derive(Drop)]
 pub struct PlanTables {
     pub passes: Items<Setting>,

@@ -1,4 +1,5 @@
-// Finds the cells of the controls of all passes, and the driver cells that are the same in all passes.
+// Finds the cells of the controls of all passes, and the driver cells that are the same in all passes. An observer is a
+// driver by which its net can be observed.
 ghost use Rattle.std.specs.Prelude.{◌≡◌, ◌+◌, ◌<◌, ◌^◌, true, false, length, slice_index_or, IfOk, OnOk, All};
 ghost use Rattle.board_defs.specs.declared.board.Ctl.{Ctl as ControlRecord};
 ghost use Rattle.board_defs.specs.Pins.{device_at, cell_count, data_bits};

@@ -1,5 +1,5 @@
--- The quiet row disables every driver that has a control. If the cell of each control of a pass is set in it to the bit that enables the
--- control's drivers, the result is the row of the pass in which no cell carries a net's bit.
+-- The quiet row disables every driver that has a control. Set the cell of each control of a pass in the quiet row to the bit that enables
+-- the control's drivers. The result is the row of the pass in which no cell carries a net's bit.
 use Rattle.std.proofs.Common.{◌≡◌, ℕ, ◌+◌, Bool, true, false, not, cond, List, unwrap_or, refl, sym, ap, ◌∙◌, ◌⊎◌, inl, inr}
 use Rattle.std.specs.List.{list_any}
 use Rattle.board_defs.specs.declared.device.RawDevice.{RawDevice}

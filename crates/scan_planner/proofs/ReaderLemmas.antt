@@ -271,7 +271,8 @@ module _ (board : RawBoard) (rules : IsBoard board) (pass : List Ctl) (carried :
       by_entry None ee = inl refl
       by_entry (Some e) ee = by_role e ee (is_receiving e.role) refl
 
-  -- The expected bits are 0, except that the cell of each pair has the pair's bit. The mask is 0, except for a 1 at each of these cells.
+  -- The expected bits are 0, except that the compared cell of each pair has the bit of the pair's driver. The mask is 0, except for a 1 at
+  -- each of these compared cells.
   pub tdo_compared : assigned (λ (x : Pair). x.1.position) (λ x. bit x.0)
       (bits_of_parts (λ part device cell. false) board) (pairs readers drivers)
       ≡ bits_of_parts (λ part device cell. unwrap_or (expect_bit board row part device cell) false) board

@@ -16,7 +16,7 @@ pub record PlannedBoard : Type 0 where
 abbrev pub planned_board : RawBoard → PlanTables → PlannedBoard
 planned_board board plan = record { board = board; plan = plan }
 
--- the rows hold scan `k` of the test, and `shape` is the scan's shape
+-- the rows hold scan `k` of the test, and `shape` says whether it is an instruction scan, and whether it compares a bit
 abbrev pub FillsRows : PlannedBoard → ℕ → Shape → ScanRows → Type 0
 FillsRows test k shape rows =
     FillsScan test.board test.plan.passes test.plan.width k shape rows.tdi.now.bits

@@ -112,8 +112,8 @@ impl<'a> BoardPlan<'a> {
         self.plan.width()
     }
 
-    /// Does nothing. The contract states the facts about a board with a plan: the board keeps the rules, the plan is a
-    /// plan of the board, there are fewer than 2^32 passes, and a pass has at most `most_rows` rows.
+    /// Does nothing. The contract states the facts about a board with a plan: the board keeps the rules of boards, the
+    /// plan is a plan of the board, there are fewer than 2^32 passes, and a pass has at most `most_rows` rows.
     pub(crate) fn laws(&self)
         ensures rules { IsBoard self.now.board }
         ensures plan { IsPlanOf self.now.board self.now.plan }
@@ -156,8 +156,8 @@ impl<'a> PassOfPlan<'a> {
         self.test.plan().common()
     }
 
-    /// Does nothing. The contract states the facts about a pass of a board's plan: the board keeps the rules, the plan
-    /// is a plan of the board, the plan has the pass, and the pass has at most `most_rows` rows.
+    /// Does nothing. The contract states the facts about a pass of a board's plan: the board keeps the rules of boards,
+    /// the plan is a plan of the board, the plan has the pass, and the pass has at most `most_rows` rows.
     pub(crate) fn laws(&self)
         ensures rules { IsBoard self.now.test.board }
         ensures plan { IsPlanOf self.now.test.board self.now.test.plan }

@@ -1,6 +1,6 @@
 //! Makes the scans of a board's test one at a time, from tables that `plan_tables` makes. A plan also returns
-//! the code and the compared cells of each net, the driver that a pass enables on a net, and the bit at each
-//! position of the quiet row.
+//! the code and the compared cells of each net, the driver that a pass enables on an unguarded net, and the bit
+//! at each position of the quiet row.
 //!
 //! All passes of a plan share rows that the plan makes only once. For each pass, a walk over the pass's cells sets the
 //! bits of these cells in copies of the shared rows. The walk sets them in all rows at once, which are stored side by

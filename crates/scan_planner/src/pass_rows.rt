@@ -13,7 +13,8 @@ use bt_bits::{Row, RowStack};
 use plan_tables::PlanTables;
 use std::alloc::{AllocError, Global};
 
-/// The bits that the data scans of one pass shift in and compare, side by side.
+/// The bits that the data scans of one pass shift in and compare, stored side by side. Also the form of the rows that
+/// all passes share, from which the rows of each pass are made.
 #[derive(Drop)]
 pub struct StackedRows {
     /// The bits that are shifted in.

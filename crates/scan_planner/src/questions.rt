@@ -13,7 +13,7 @@ use board_defs::Setting;
 use bt_bits::Row;
 use plan_tables::{NetDriver, ReaderCell};
 
-/// Returns the code of a net, or 0 if no net has this number.
+/// Returns the code of a net, or 0 if `codes` has no code for this net.
 #[inline]
 pub fn code_at(codes: &[u32], net: u32) -> u32
     ensures { result ≡ slice_index_or codes.now net 0 }
@@ -55,16 +55,17 @@ impl Plan {
         self.tables.width
     }
 
-    /// Returns the code of a net: its number, from 1, among the nets that some pass observes, or 0 if no pass
-    /// observes the net.
+    /// Returns the code of a net: its number, from 1, among the nets that some pass observes. Returns 0 if no
+    /// pass observes the net, or if no net has this number.
     pub fn code(&self, net: u32) -> u32
         ensures { result ≡ slice_index_or self.now.codes net 0 }
     {
         code_at(self.tables.codes.as_slice(), net)
     }
 
-    /// Returns the driver that a pass of the plan enables on an unguarded net, if there is one. No pass
-    /// enables two drivers of a net. Returns None for a guarded net.
+    /// Returns the first driver of an unguarded net, in pin order, that the setting `pass` enables, if there is
+    /// one. A pass of the plan enables at most one driver of a net. Returns None for a guarded net, or if no net
+    /// has this number.
     #[inline]
     pub fn driver(&self, pass: &Setting, net: u32) -> Option<NetDriver>
         ensures { result ≡ enabled_on self.now.nets (holds pass.now) net }

@@ -10,7 +10,7 @@ has_bit word place = bit_at word place == 1
 unfoldable pub is_in : List ℕ → ℕ → Bool
 is_in words n = has_bit (slice_index_or words (n / 64) 0) (n % 64)
 
--- number `n` belongs to this word, and its bit is set in `bits`
+-- number `n` belongs to word number `word`, and the bit of `n` in that word is set in `bits`
 abbrev pub is_of_word : ℕ → ℕ → ℕ → Bool
 is_of_word word bits n = n / 64 == word && has_bit bits (n % 64)
 

@@ -24,14 +24,13 @@ pub record ArePairing (board : RawBoard) (pairing : Pairing) : Type 0 where
   pub left_length : length pairing.left ≡ length board.nets / 64 + 1
   pub always : AreShownByAll board pairing.passes.items pairing.always
 
--- `left` has those nets from net `a` on that no pass shows together with net `a`
+-- Among the nets from net `a` on, `left` has exactly those that no pass shows together with net `a`. Earlier nets may be in `left` or not.
 abbrev pub AreLeft : RawBoard → List (List Ctl) → ℕ → List ℕ → Type 0
 AreLeft board passes a left =
     (n : ℕ) → a ≤ n → n < length board.nets
     → is_in left n ≡ not (are_shown passes (drivers_at board a) (drivers_at board n))
 
--- Net `a` is the current net, that is, the net for which passes are being added. `left` has those nets from net `a` on that no pass shows
--- together with net `a`.
+-- Net `a` is the current net, that is, the net for which passes are being added. `pairing.left` has the nets that `AreLeft` says.
 pub record LooksAt (board : RawBoard) (pairing : Pairing) (a : ℕ) : Type 0 where
   pub are : ArePairing board pairing
   pub net : a < length board.nets
@@ -59,7 +58,7 @@ AreDone board passes a = (m : ℕ) → m < a → IsDoneTo board passes m (length
 abbrev pub StaysDone : RawBoard → List (List Ctl) → List (List Ctl) → Type 0
 StaysDone board before after = (m n : ℕ) → NeedsNoPass board before m n → NeedsNoPass board after m n
 
--- each of the two drivers has no control or a useful control
+-- each of the two drivers is always on or one-sided, or a useful control enables it
 abbrev pub IsUsefulPair : RawBoard → Drive × Drive → Type 0
 IsUsefulPair board pair = IsUsefulDriver board pair.0 × IsUsefulDriver board pair.1
 

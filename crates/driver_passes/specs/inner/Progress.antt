@@ -18,7 +18,8 @@ use Rattle.driver_passes.specs.inner.Shown.{AreShownRows}
 abbrev pub is_held : List (List Ctl) → Ctl → Bool
 is_held passes c = list_any (λ pass. holds pass c) passes
 
--- the set has the places of the useful controls that are in some pass
+-- The set has the places of those useful controls that are in some pass, and has room for each useful control. A place is a place in the
+-- list of useful controls.
 pub record AreHeld (board : RawBoard) (passes : List (List Ctl)) (held : List ℕ) : Type 0 where
   pub held_length : length held ≡ length (useful_controls board) / 64 + 1
   pub held_are : (i : ℕ) (c : Ctl) → slice_get (useful_controls board) i ≡ Some c → is_in held i ≡ is_held passes c

@@ -13,7 +13,8 @@ use Rattle.driver_passes.specs.inner.Blocks.{has_place}
 use Rattle.driver_passes.specs.inner.Drafts.{has_number}
 use Rattle.driver_passes.specs.inner.NumberSets.{is_in}
 
--- Each net has a list of places. The list has the places below `most` of the useful controls that share the net with another control.
+-- Each net has a list of places in the list of useful controls. The list has those places below `most` whose control shares the net with
+-- another control.
 pub record AreSharersBelow (board : RawBoard) (most : ℕ) (sharers : List (List ℕ)) : Type 0 where
   pub sharers_length : length sharers ≡ length board.nets
   pub sharers_are : (place : ℕ) (c : Ctl) → slice_get (useful_controls board) place ≡ Some c

@@ -22,7 +22,7 @@ pub record AreShownByAll (board : RawBoard) (passes : List (List Ctl)) (always :
   pub always_length : length always ≡ length board.nets / 64 + 1
   pub always_are : (n : ℕ) → n < length board.nets → is_in always n ≡ list_all (shows (drivers_at board n)) passes
 
--- word `number` of each row
+-- word `number` of each row, or 0 for a row that has no such word
 abbrev pub words_at : ℕ → List (List ℕ) → List ℕ
 words_at number rows = map (λ row. slice_index_or row number 0) rows
 

@@ -1,7 +1,7 @@
--- The two walks over the useful controls, each starting at a given place. A walk adds a control to a draft (a
--- pass that is being made) if it is together with all controls of the draft, that is, the setting with any
--- one of them and this control is safe. The first walk adds only controls that are in no earlier pass. A
--- control is useful if it is safe alone and enables a tested driver.
+-- The two walks over the useful controls, each starting at a given place in the list of useful controls. A walk adds
+-- a control to a draft (a pass that is being made) if the control is together with each control of the draft. Two
+-- controls are together if the setting with just these two is safe. The first walk adds only controls that are in no
+-- earlier pass. A control is useful if it is safe alone and enables a tested driver.
 use Rattle.std.specs.Prelude.{ℕ, List, drop}
 use Rattle.board_defs.specs.declared.board.Ctl.{Ctl}
 use Rattle.board_defs.specs.Passes.{first_walk, second_walk, useful_controls}

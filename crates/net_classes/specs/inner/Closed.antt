@@ -21,13 +21,13 @@ use Rattle.net_classes.specs.Pairs.{drivers_at}
 abbrev pub drives_some : RawBoard → List ℕ → Ctl → Bool
 drives_some board nets c = list_any (λ n. drives_there board c (slice_get board.nets n)) nets
 
--- the driver has a control, and `passes` is true of the control
+-- the driver is neither always on nor one-sided, and `passes` is true of its control
 abbrev pub is_by_one : (Ctl → Bool) → Drive → Bool
 is_by_one passes AlwaysOn = false
 is_by_one passes OneSided = false
 is_by_one passes (By c) = passes c
 
--- there are drivers, and each has a control of which `passes` is true
+-- there are drivers, and each satisfies `is_by_one`
 abbrev pub are_by_some : (Ctl → Bool) → List Drive → Bool
 are_by_some passes [] = false
 are_by_some passes (d ∷ ds) = list_all (is_by_one passes) (d ∷ ds)

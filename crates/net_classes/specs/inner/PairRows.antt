@@ -1,4 +1,5 @@
--- Rows of bits that say which nets are paired.
+-- Rows of bits that say which nets are paired. A net is covered if some safe setting observes it. Two nets are paired if one safe setting
+-- observes both.
 use Rattle.std.specs.Prelude.{◌≡◌, ℕ, ◌<◌, ◌+◌, ◌/◌, Bool, true, false, List, length, Option, None, Some, is_some, slice_index}
 use Rattle.std.specs.List.{list_any}
 use Rattle.board_defs.specs.declared.board.Ctl.{Ctl}

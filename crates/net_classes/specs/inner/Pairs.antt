@@ -12,11 +12,11 @@ use Rattle.board_defs.specs.Settings.{holds}
 use Rattle.board_defs.specs.Passes.{useful_controls}
 use Rattle.net_classes.specs.Pairs.{fits_some}
 
--- the driver has no control, or its control is a cell of the board
+-- the driver is always on or one-sided, or its control is a cell of the board
 abbrev pub IsByCell : RawBoard → Drive → Type 0
 IsByCell board d = (c : Ctl) → d ≡ By c → IsCell board c
 
--- the driver has no control, or its control is useful
+-- the driver is always on or one-sided, or its control is useful
 abbrev pub IsUsefulDriver : RawBoard → Drive → Type 0
 IsUsefulDriver board d = (c : Ctl) → d ≡ By c → holds (useful_controls board) c ≡ true
 

@@ -36,8 +36,8 @@ unsafe_too row = record row { safe = false }
 abbrev pub useful_too : ControlClass → ControlClass
 useful_too row = record row { useful = true }
 
--- The table with a driver on net `n` added at the driver's control. If there is no driver, or it has no control, the table stays the
--- same.
+-- The table with a driver on net `n` added at the driver's control. The table stays the same if there is no driver, or if the driver is
+-- always on or one-sided.
 abbrev pub note_drive : ℕ → Bool → Option Drive → List (List ControlClass) → List (List ControlClass)
 note_drive n closed None rows = rows
 note_drive n closed (Some AlwaysOn) rows = rows

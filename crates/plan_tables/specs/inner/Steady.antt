@@ -1,4 +1,5 @@
--- The cells of the passes' controls, and the driver cells that are the same in all passes.
+-- The cells of the passes' controls, and the driver cells that are the same in all passes. An observer is a driver by which its net can be
+-- observed.
 use Rattle.std.specs.Prelude.{◌≡◌, ℕ, suc, ◌<◌, ◌==◌, nat_lt, Bool, true, false, not, ◌&&◌, cond, List, [], length, map, filter, fold, replicate, Option, Some, None, slice_get, slice_index_or, slice_set, Contains}
 use Rattle.board_defs.specs.declared.board.RawBoard.{RawBoard}
 use Rattle.board_defs.specs.declared.board.Ctl.{Ctl}

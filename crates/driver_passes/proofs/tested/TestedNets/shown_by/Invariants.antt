@@ -7,8 +7,8 @@ use Rattle.net_classes.specs.Pairs.{drivers_at}
 use Rattle.driver_passes.specs.inner.Tested.{drives}
 use Rattle.driver_passes.proofs.tested.TestedNets.shown_by.Given as goal
 
--- A net is in the row if it has a tested driver that is always on, or one whose control is in the pass and has a place below `place` in
--- the list of useful controls.
+-- `place` is a place in the list of useful controls, and is in `held` unless it is past the end of the list. The nets in the row, together
+-- with the nets that the pass's controls from `place` on test, are the nets that the pass shows.
 abbrev pub invariant-loop-place : goal.invariant-loop-place
 invariant-loop-place l = record {
   room : length l.row ≡ length l.board.nets / 64 + 1;
