@@ -197,8 +197,10 @@ split_pairs = refl
 split_rules : IsBoard split
 split_rules = board_of split refl
 
--- In the first pass, the first walk adds the control of part 1's bus driver. In the second pass, the first walk adds no control, and the
--- second walk adds a control that the first pass has too.
+-- A pass for a driver starts with the control of this driver. Two walks through the useful controls then add each control that is together
+-- with all controls of the pass so far. The first walk adds only controls that no earlier pass has. In the first pass of `split`, the first
+-- walk adds the control of part 1's bus driver. In the second pass, the first walk adds no control, and the second walk adds a control that
+-- the first pass has too.
 split_passes : passes_of split ≡ (c 0 1 ∷ c 1 1 ∷ []) ∷ (c 0 1 ∷ c 2 1 ∷ []) ∷ []
 split_passes = refl
 

@@ -22,8 +22,8 @@ use Rattle.grammars.specs.Values.{some_if}
 use Rattle.bsdl_parser.specs.AttributeNumbers.{attribute_number}
 use Rattle.bsdl_parser.specs.Places.{Phrase, is_word_token, keyword, mark, either_word, either_mark, any_word, any_number, any_text, integer, mode, other_than, word_or_mark}
 
--- text ( "&" | close ), which is one turn of string = text { "&" text }, followed by the mark `close`; a text
--- is one string token
+-- text ( "&" | close ), which is one turn of text { "&" text } close. Here string = text { "&" text }, a text is one
+-- string token, and `close` is the mark after the string.
 unfoldable pub string_piece : List ℕ → List ℕ → Phrase (Turn (List ℕ) (List ℕ))
 string_piece close before = do
   piece ← any_text

@@ -1,4 +1,4 @@
--- Lemmas about the puts of a sink in memory that are chosen to fail.
+-- Lemmas about the number of bytes that a call of `put` may take, if some calls of `put` are chosen to fail.
 use Rattle.std.proofs.Common.{◌≡◌, ℕ, ◌≤◌, Bool, true, false, List, [], ◌∷◌, min, nat_eq, cond, refl, arith}
 use Rattle.std.specs.Prelude.{◌||◌}
 use Rattle.bt_base.specs.declared.memory.FailingPut.{FailingPut}

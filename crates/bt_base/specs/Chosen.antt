@@ -1,4 +1,4 @@
--- The puts of a sink in memory that are chosen to fail.
+-- The calls of `put` that are chosen to fail, on a sink in memory. Such a call is named by its number, counted from 1.
 use Rattle.std.specs.Prelude.{ℕ, ◌==◌, Bool, List, [], ◌∷◌, min, if◌then◌else◌}
 use Rattle.std.specs.List.{list_any}
 use Rattle.bt_base.specs.declared.memory.FailingPut.{FailingPut}

@@ -31,7 +31,7 @@ pub enum HexFault {
 /// room.
 #[derive(Drop)]
 pub struct Row {
-    // The digits of the bits. The first bit is the lowest bit of the first digit.
+    // The values of the bits' hexadecimal digits, one in each byte. Bit 0 is the lowest bit of the first digit.
     digits: Vec<u8>,
     len: u32,
     room: u32,

@@ -98,7 +98,8 @@ pub fn read_log<'a, S: Store>(
     read_wanted(alloc, log_called(name.as_str()), store)
 }
 
-/// Reads BSDL texts in order, each of at most `MOST_BYTES` bytes. Stops at the first text that is not read or is too long.
+/// Reads BSDL texts in order, each of at most `MOST_BYTES` bytes. Stops at the first failure and returns it: a text that
+/// cannot be read, a text that is too long, or lack of memory.
 pub fn read_texts<'a, S: Store>(
     alloc: Global,
     names: &BsdlNames<'a>,

@@ -195,7 +195,8 @@ or_of : (fs hs : List (OfNet Bool)) (x : OfNet Bool) (free : Bool) → Has fs x 
 or_of [] hs x free h = absurd h
 or_of (f ∷ fs) hs x free h = refl
 
--- the setting is safe and holds no control of a switching driver
+-- The setting is safe and has no control of a switching driver. A switching driver is a driver whose own cell is also its control cell, on
+-- an unguarded net that is pulled to the driver's disable value.
 pub record IsWalkSetting (board : RawBoard) (walk : List Ctl) : Type 0 where
   pub safe : IsSafe board (holds walk)
   pub none : (c : Ctl) → holds walk c ≡ true → switches_some board c ≡ false

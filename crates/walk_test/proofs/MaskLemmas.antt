@@ -118,8 +118,8 @@ module _ (log : List (List Bool)) (mask : List Bool) (marks : List ℕ) (are : m
       → Decides t (StartsGroup log mask j own none old)
   not_started own none old t is off = (λ e. let bad : true ≡ false = sym e ∙ off in cc bad, λ s. is ∙ one_read own ∙ s.is_read)
 
-  -- If position `own` is compared and reads 1 in row j, a group starts in row j if and only if no compared position that reads 1 in this
-  -- row has a row in `old`. `none` stands for no row.
+  -- `old` has, for each position, the number of the row that has been noted for it, or `none`. If position `own` is compared and reads 1 in
+  -- row j, a group starts in row j if and only if `old` has `none` for each compared position that reads 1 in this row.
   module _ (none : ℕ) (old : List ℕ) (count : length old ≡ length mask) where
     pub starts : (own : ℕ) → is_one row marks own ≡ true → (t : Bool)
         → Decides t (IsFresh row marks none old (length old))

@@ -141,7 +141,8 @@ module _ (log : List (List Bool)) (mask : List Bool) (nets : List NetCells) (non
       found = λ at on. blank at ∙ sym (below_past 0 none (first_one log at) (omega arith));
     }
 
-    -- row `j`, after the rows before row `j` are read
+    -- Lemmas about row `j`, in which `net` carries 1. The rows before row `j` have been read. `firsts` has, for each compared position,
+    -- the first of these rows in which the position reads 1, or `none`.
     module _ (j : ℕ) (firsts : List ℕ) (read : AreRead log mask nets none j firsts) (net : NetCells)
         (is_net : slice_get nets j ≡ Some net) where
       abbrev own : ℕ

@@ -47,7 +47,8 @@ bus_text : board_walk_text bus ≡ whole (
 unfolding svf_text digits
 bus_text = refl
 
--- cell 0 of part 0 is the control of a switching driver
+-- Cell 0 of part 0 is the control of a switching driver. A switching driver is a driver whose own cell is also its control cell, on an
+-- unguarded net that is pulled to the driver's disable value.
 pulled_switches : switches_some pulled_up (record { part = 0; cell = 0 }) ≡ true
 pulled_switches = refl
 

@@ -363,8 +363,8 @@ module _ (safe : WalkSafe)
         ap (λ (row : List Bool). get_or row r.position false) (sym (get_or_from_slice_get log j logged [] e))
         ∙ joined place.0 j d.net one r.position c place.1 stands at has
 
-    -- If each compared cell reads 1 exactly in the rows of nets with the label of its own net, the groups of nets with equal labels explain
-    -- the log.
+    -- Suppose that, in the row in which a net carries 1, each compared cell reads 1 if and only if its own net has the same label as that
+    -- net. Then the groups of nets with equal labels explain the log.
     module _ (shape : All (λ row. length row ≡ data_bits board) log) (shows : ShowsLabels log labels cells) where
       abbrev own : (i k : ℕ) → slice_get labels i ≡ Some k → (k ≤ i) × (slice_get labels k ≡ Some k)
       own = own_label log cells long some shows
@@ -408,7 +408,8 @@ module _ (safe : WalkSafe)
                 (scans_by board o) log) (sym is) by_walk;
           }
 
-    -- If some set of groups explains the log, each compared cell reads 1 exactly in the rows of nets with the label of its own net.
+    -- Suppose that some set of groups explains the log. Then, in the row in which a net carries 1, each compared cell reads 1 if and only
+    -- if its own net has the same label as that net.
     module _ (groups : List (List ℕ)) (explains : Explain board log groups) where
       ordered : AreOrdered groups
       ordered = groups_ordered board groups explains.are

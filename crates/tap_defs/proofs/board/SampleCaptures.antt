@@ -98,8 +98,8 @@ beside_inert = refl
 on_supply : feeding bus (states_of off on Extest) (record (net (pin 0 0 ∷ pin 2 0 ∷ [])) { supply = true }) ≡ Unruled
 on_supply = refl
 
--- `opened` adds an open pin to the given faults, and `stuck` makes a net their only stuck net. `shorted` is a
--- short of the first `count` nets.
+-- `opened` adds an open pin with this constant to the given faults. `stuck` makes a net, with this constant, their
+-- only stuck net. `shorted` is a short of the first `count` nets.
 abbrev opened : ℕ → ℕ → Bool → FaultSet → FaultSet
 opened net place constant faults = record faults { opened = λ n i. cond ((n == net) && (i == place)) (Some constant) (faults.opened n i) }
 
@@ -120,7 +120,7 @@ pulled_bus pull more = record bus { nets = pulled pull (pin 0 0 ∷ pin 1 0 ∷ 
 abbrev bus_bit : Option Bool → FaultSet → Bool → Bool → List (Option Bool)
 bus_bit pull faults first second = net_bits on (pulled_bus pull []) faults (states_of first second Extest)
 
--- if the only live driver is open, the net has its pull, or the constant of the driver if it has no pull
+-- if the only live driver is open, the net has its pull, or the constant of the driver's pin if the net has no pull
 open_to_pull : map (λ constant. bus_bit (Some off) (opened 0 0 constant no_faults) off on)
     (off ∷ on ∷ []) ≡ (Some off ∷ []) ∷ (Some off ∷ []) ∷ []
 open_to_pull = refl
@@ -245,7 +245,7 @@ third_apart : net_bits on (three None None None) (shorted 2 And)
     (three_give (Some on) (Some off) (Some on)) ≡ Some off ∷ Some off ∷ Some on ∷ []
 third_apart = refl
 
--- if the driver of a shorted net is open, the net is not driven, and the constant of the driver does not count
+-- if the driver of a shorted net is open, it does not drive the net, and the constant of the driver's pin does not count
 open_in_short : net_bits on (three None None None) (opened 0 0 off (shorted 2 And))
     (three_give (Some off) (Some on) None) ≡ Some on ∷ Some on ∷ None ∷ []
 open_in_short = refl
@@ -324,8 +324,8 @@ open_drives : map (λ free. captures meeting (opened 0 0 off no_faults) first_on
     (off ∷ on ∷ []) ≡ (off ∷ off ∷ []) ∷ (on ∷ on ∷ []) ∷ []
 open_drives = refl
 
--- A receiver reads the constant of an open driver, and the bit of a stuck net. If the receiver is open, it reads its own constant, even
--- on a stuck net.
+-- If the only live driver is open and the net has no pull, a receiver reads the constant of the driver's pin. A receiver reads the bit of a
+-- stuck net. If the receiver is open, it reads its own constant, even on a stuck net.
 reads_open_driver : captures_by meeting (opened 0 0 off no_faults) first_on 2 ≡ (off ∷ []) ∷ (off ∷ []) ∷ []
 reads_open_driver = refl
 

@@ -112,8 +112,9 @@ compared_passes [] (o ∷ out) rest h = absurd (omega (arith, h))
 compared_passes (i ∷ ins) (true ∷ out) rest h = compared_passes ins out rest (omega (arith, h))
 compared_passes (i ∷ ins) (false ∷ out) rest h = compared_passes ins out rest (omega (arith, h))
 
--- A scan that expects `k` zeros and then the marks fails if another number of zeros comes before the marks. The scan
--- must have a bit for each expected bit.
+-- The marks are the bits of the hexadecimal number A5, which the second scan of the chain test shifts in first. A scan
+-- that expects `k` zeros and then the marks fails if another number of zeros comes before the marks. The scan must have
+-- a bit for each expected bit.
 count_fails : (ins : List Bool) (k j : ℕ) (rest : List Bool) → k ≢ j → length (replicate k false ++ marks) ≤ length ins →
     scan_passes (compared_with ins (replicate k false ++ marks)) (replicate j false ++ (marks ++ rest)) ≡ false
 count_fails [] k j rest ne h = absurd (omega (arith, h, length-append (replicate k false) marks))

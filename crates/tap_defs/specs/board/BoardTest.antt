@@ -9,8 +9,9 @@ use Rattle.tap_defs.specs.board.OnBoard.{PassOnBoard, FailOnBoard}
 use Rattle.tap_defs.specs.board.Quiet.{IsQuiet}
 
 -- A text is harmless on a board if it has a meaning, passes on the board without faults, and is quiet under every fault
--- set. Quiet (`IsQuiet`) means that, from the fifth clock on, no two drivers ever drive a net together, and cells that
--- the test does not use keep their safe values.
+-- set. Quiet (`IsQuiet`) means that three conditions hold from the fifth clock on. Either no described part is in
+-- EXTEST, or all are and the setting in their latches is safe. No two drivers of a net drive it at the same moment or
+-- at successive moments. In EXTEST, cells that the test does not use have their safe values, if these are 0 or 1.
 pub record IsHarmless (board : RawBoard) (text : List ℕ) : Type 0 where
   pub clocks : List Clock
   pub means : meaning text ≡ Some clocks

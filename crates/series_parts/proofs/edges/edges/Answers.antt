@@ -1,4 +1,4 @@
--- Both ends of each edge are lines.
+-- Both ends of each edge are indices of lines of the net file.
 use Rattle.std.proofs.Common.{◌≡◌, ◌<◌, ◌++◌, length, ap, sym, subst, ◌∙◌}
 use Rattle.std.specs.Prelude.{All}
 use Rattle.series_parts.specs.inner.Labels.{Edges}
