@@ -76,6 +76,13 @@ impl<'a> BoardTest<'a> {
         }
     }
 
+    /// Returns a copy of this value.
+    pub(crate) fn again(&self) -> BoardTest<'a>
+        ensures { result ≡ self.now }
+    {
+        self.with_kept(self.kept())
+    }
+
     /// Returns the board with its plan.
     pub fn board_plan(&self) -> &BoardPlan<'a>
         ensures { result.now ≡ self.now }
@@ -113,8 +120,10 @@ impl<'a> BoardTest<'a> {
         requires { IsLogOfTest self.now log.now }
         ensures { result ≡ logged_board self.now log.now }
     {
-        let test = self.with_kept(self.kept());
-        LoggedTest { test, log }
+        LoggedTest {
+            test: self.again(),
+            log,
+        }
     }
 
     /// Returns pass `x`, counted from 0. `x` must be below the number of passes.

@@ -47,7 +47,9 @@ impl<'a> BoardTest<'a> {
         ensures { IfOk result (λ found. found ≡ self.now) }
     {
         let universe = Universe::of(alloc, self)?;
-        let test = self.with_kept(self.kept());
-        Ok(TestUniverse { test, universe })
+        Ok(TestUniverse {
+            test: self.again(),
+            universe,
+        })
     }
 }

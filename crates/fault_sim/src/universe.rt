@@ -267,7 +267,7 @@ impl Universe {
     }
 
     /// Like `new`, but takes the board and the plan as the board's test.
-    pub fn of(alloc: Global, test: &BoardTest<'_>) -> Result<Universe, AllocError>
+    pub(crate) fn of(alloc: Global, test: &BoardTest<'_>) -> Result<Universe, AllocError>
         ensures { IfOk result (λ universe. IsUniverse test.now.board universe) }
     {
         let (board, plan) = (test.board(), test.plan());
