@@ -4,14 +4,19 @@ use Rattle.std.specs.Prelude.{filter, take_while, codes, IfSome, IfNone, option_
 use Rattle.std.specs.Str.{bytes_eq}
 use Rattle.std.specs.List.{slice_split, onto_first, join_with_byte}
 use Rattle.std.proofs.lemmas.List.Splits.{slice_split-cons_yes, slice_split-cons_no, length-slice_split, join_with_byte-slice_split}
+use Rattle.std.proofs.lemmas.List.Elements.{All-nil, All-cons, All-append}
 use Rattle.std.proofs.lemmas.List.Sums.{take_while-cons}
 use Rattle.std.proofs.Math.Seq.{take-append-add}
 use Rattle.text_lines.specs.Words.{Word, words_of, is_newline, is_line_blank, is_filled, begins_no_comment, lines_of}
 use Rattle.text_lines.proofs.LineLemmas.{words_of_empty}
 use Rattle.response_log.specs.LogRows.{NumberedLine, numbered_lines, holds_word, has_words}
-use Rattle.batch_diag.specs.declared.fault.BatchFault.TheVariants.{Title as WrongTitle}
-use Rattle.batch_diag.specs.Batch.{is_title, id_of, names_board, begins_block, start_fault, title_fault, up_to_title, blocks_of}
-use Rattle.batch_diag.specs.inner.Cutting.{rows_from, begins_row, or_nothing}
+use Rattle.batch_diag.specs.declared.fault.BatchFault.TheVariants.{Title}
+use Rattle.batch_diag.specs.Batch.{is_title, id_of, names_board, start_fault, title_fault, up_to_title, blocks_of}
+use Rattle.batch_diag.specs.declared.lines.FoundLine.{FoundLine}
+use Rattle.batch_diag.specs.declared.lines.LineKind.{LineKind}
+use Rattle.batch_diag.specs.declared.lines.LineKind.TheVariants.{WithWords, AnyTitle, WrongTitle}
+use Rattle.batch_diag.specs.inner.Cutting.{IsFirstLine, NoneIs, rows_from, begins_row, is_of_kind, or_nothing}
+use Rattle.batch_diag.proofs.RowLemmas.{right_before, rows_blocks, first_block, up_to_first, rows_up_to}
 
 -- The lines of `lines` that have words, with their numbers. The first of `lines` has the number `n`.
 abbrev pub rows_at : ℕ → List (List ℕ) → List NumberedLine
@@ -25,33 +30,23 @@ with_line n words later = cond (holds_word words) (record { number = n; words = 
 abbrev pub left_at : ℕ → Option (List ℕ) → List NumberedLine
 left_at n left = rows_at n (lines_of left)
 
-pub left_line : (n : ℕ) (left after : Option (List ℕ)) (text line : List ℕ) → left ≡ Some text
-    → slice_split is_newline text ≡ line ∷ lines_of after
-    → left_at n left ≡ with_line n (words_of line) (left_at (n + 1) after)
-left_line n left after text line is split = ap (left_at n) is ∙ ap (rows_at n) split
-
-pub start_blank : (n : ℕ) (words : List Word) (later : List NumberedLine) → holds_word words ≡ false
-    → start_fault (with_line n words later) ≡ start_fault later
-start_blank n [] later none = refl
-start_blank n (word ∷ words) later none = absurd cc
-
-pub start_here : (n : ℕ) (words : List Word) (later : List NumberedLine) → holds_word words ≡ true
-    → start_fault (with_line n words later)
-    ≡ start_fault (record { number = n; words = words } ∷ [])
-start_here n [] later some = absurd cc
-start_here n (word ∷ words) later some = refl
-
 pub title_right : (n : ℕ) (words : List Word) (later : List NumberedLine)
     → (is_title words && not (names_board words)) ≡ false
     → title_fault (with_line n words later) ≡ title_fault later
 title_right n [] later right = refl
-title_right n (word ∷ words) later right = ap (λ b. cond b (Some (WrongTitle n)) (title_fault later)) right
+title_right n (word ∷ words) later right = ap (λ b. cond b (Some (Title n)) (title_fault later)) right
 
 pub title_wrong : (n : ℕ) (words : List Word) (later : List NumberedLine)
     → (is_title words && not (names_board words)) ≡ true
-    → title_fault (with_line n words later) ≡ Some (WrongTitle n)
+    → title_fault (with_line n words later) ≡ Some (Title n)
 title_wrong n [] later wrong = absurd cc
-title_wrong n (word ∷ words) later wrong = ap (λ b. cond b (Some (WrongTitle n)) (title_fault later)) wrong
+title_wrong n (word ∷ words) later wrong = ap (λ b. cond b (Some (Title n)) (title_fault later)) wrong
+
+-- a line that has words comes before the later lines
+pub worded : (n : ℕ) (words : List Word) (later : List NumberedLine) → holds_word words ≡ true
+    → with_line n words later ≡ record { number = n; words = words } ∷ later
+worded n [] later none = absurd cc
+worded n (word ∷ words) later some = refl
 
 pub worded_line : (line : List ℕ) → holds_word (words_of line) ≡ true → 0 < length line
 worded_line [] some =
@@ -63,15 +58,14 @@ pub title_words : (words : List Word) → is_title words ≡ true → holds_word
 title_words [] is = absurd cc
 title_words (word ∷ words) is = refl
 
-pub title_line : (line : List ℕ) → is_title (words_of line) ≡ true → 0 < length line
-title_line line is = worded_line line (title_words (words_of line) is)
-
 wrong_title_words : (words : List Word) → (is_title words && not (names_board words)) ≡ true → holds_word words ≡ true
 wrong_title_words [] is = absurd cc
 wrong_title_words (word ∷ words) is = refl
 
-pub wrong_line : (line : List ℕ) → (is_title (words_of line) && not (names_board (words_of line))) ≡ true → 0 < length line
-wrong_line line is = worded_line line (wrong_title_words (words_of line) is)
+pub kind_words : (kind : LineKind) (words : List Word) → is_of_kind kind words ≡ true → holds_word words ≡ true
+kind_words WithWords words is = is
+kind_words AnyTitle words is = title_words words is
+kind_words WrongTitle words is = wrong_title_words words is
 
 -- if the first byte of a line's first word is not `B`, the line is not a title
 other_first : (b : ℕ) (piece : List ℕ) (pieces : List (List ℕ)) (comment : Bool) → (b == 66) ≡ false
@@ -164,15 +158,6 @@ text_of_first text line left is =
     ∙ ap (join_with_byte 10) (is ∙ sym (follows text line left left is))
     ∙ join_with_byte-slice_split 10 (line ++ 10 ∷ left)
 
--- none of the lines is a title
-abbrev pub NoTitles : List (List ℕ) → Type 0
-NoTitles [] = Unit {0}
-NoTitles (line ∷ lines) = (is_title (words_of line) ≡ false) × NoTitles lines
-
-no_titles_more : (lines : List (List ℕ)) (line : List ℕ) → NoTitles lines → is_title (words_of line) ≡ false → NoTitles (lines ++ line ∷ [])
-no_titles_more [] line none here = (here, tt)
-no_titles_more (first ∷ lines) line none here = (none.0, no_titles_more lines line none.1 here)
-
 front_append : (n : ℕ) (words : List Word) (rows later all : List NumberedLine)
     → all ≡ rows ++ later → with_line n words all ≡ with_line n words rows ++ later
 front_append n [] rows later all is = is
@@ -186,112 +171,70 @@ rows_append n (line ∷ lines) later =
     (rows_at (n + 1) (lines ++ later))
     (rows_append (n + 1) lines later ∙ ap (λ m. rows_at (n + 1) lines ++ rows_at m later) next)
 
--- If a line that is not a title is put in front of the lines, it joins the lines before the first title.
-up_to_front : (n : ℕ) (words : List Word) (rows later : List NumberedLine) → is_title words ≡ false
-    → up_to_title (rows ++ later) ≡ rows ++ up_to_title later
-    → up_to_title (with_line n words rows ++ later) ≡ with_line n words rows ++ up_to_title later
-up_to_front n [] rows later title below = below
-up_to_front n (word ∷ words) rows later title below =
-    take_while-cons (λ l. not (begins_block l)) (record { number = n; words = word ∷ words }) (rows ++ later)
-    ∙ ap (λ (b : Bool). cond (not b) (record { number = n; words = word ∷ words } ∷ up_to_title (rows ++ later)) []) title
-    ∙ ap (λ (ls : List NumberedLine). record { number = n; words = word ∷ words } ∷ ls) below
-
-blocks_front : (n : ℕ) (words : List Word) (rows later : List NumberedLine) → is_title words ≡ false
-    → blocks_of (rows ++ later) ≡ blocks_of later
-    → blocks_of (with_line n words rows ++ later) ≡ blocks_of later
-blocks_front n [] rows later title below = below
-blocks_front n (word ∷ words) rows later title below =
-    ap
-    (λ (b : Bool). cond b
-    (record { id = id_of (word ∷ words); lines = up_to_title (rows ++ later) }
-    ∷ blocks_of (rows ++ later)) (blocks_of (rows ++ later))) title ∙ below
-
-pub up_to_lines : (n : ℕ) (lines : List (List ℕ)) (later : List NumberedLine) → NoTitles lines
-    → up_to_title (rows_at n lines ++ later) ≡ rows_at n lines ++ up_to_title later
-up_to_lines n [] later none = refl
-up_to_lines n (line ∷ lines) later none =
-    up_to_front n (words_of line) (rows_at (n + 1) lines) later none.0
-    (up_to_lines (n + 1) lines later none.1)
-
-pub blocks_behind : (n : ℕ) (lines : List (List ℕ)) (later : List NumberedLine) → NoTitles lines
-    → blocks_of (rows_at n lines ++ later) ≡ blocks_of later
-blocks_behind n [] later none = refl
-blocks_behind n (line ∷ lines) later none =
-    blocks_front n (words_of line) (rows_at (n + 1) lines) later none.0
-    (blocks_behind (n + 1) lines later none.1)
-
-pub up_to_here : (n : ℕ) (words : List Word) (later : List NumberedLine) → is_title words ≡ true
-    → up_to_title (with_line n words later) ≡ []
-up_to_here n [] later title = absurd cc
-up_to_here n (word ∷ words) later title =
-    take_while-cons (λ l. not (begins_block l)) (record { number = n; words = word ∷ words }) later
-    ∙ ap (λ b. cond (not b) (record { number = n; words = word ∷ words } ∷ up_to_title later) []) title
-
-pub block_here : (n : ℕ) (words : List Word) (later : List NumberedLine) → is_title words ≡ true
-    → blocks_of (with_line n words later)
-    ≡ record { id = id_of words; lines = up_to_title later } ∷ blocks_of later
-block_here n [] later title = absurd cc
-block_here n (word ∷ words) later title =
-    ap (λ b. cond b (record { id = id_of (word ∷ words); lines = up_to_title later } ∷ blocks_of later) (blocks_of later)) title
-
--- The first line of the text has number `n`, and the first line of the rest `left` has number `k`. No line
--- before the rest is a title.
-pub record Passed (text : List ℕ) (n k : ℕ) (left : List ℕ) : Type 0 where
+-- The first line of the text has number `n`, and the first line of its rest `left` has number `k`. No line before the rest satisfies `test`.
+pub record Passed (test : List Word → Bool) (text : List ℕ) (n k : ℕ) (left : List ℕ) : Type 0 where
   pub done : List ℕ
-  pub lines : List (List ℕ)
+  pub rows : List NumberedLine
   pub text_is : text ≡ done ++ left
-  pub whole : (behind : List ℕ) → slice_split is_newline (done ++ behind) ≡ lines ++ slice_split is_newline behind
-  pub count : k ≡ n + length lines
-  pub none : NoTitles lines
+  pub whole : (behind : List ℕ) → rows_from n (done ++ behind) ≡ rows ++ rows_from k behind
+  pub none : NoneIs test rows
 
--- Like `Passed`, if there is a rest. Otherwise no line of the whole text is a title.
-abbrev pub Passes : List ℕ → ℕ → ℕ → Option (List ℕ) → Type 0
-Passes text n k None = NoTitles (slice_split is_newline text)
-Passes text n k (Some left) = Passed text n k left
+-- Like `Passed`, if there is a rest. Otherwise no line of the whole text satisfies `test`.
+abbrev pub Passes : (List Word → Bool) → List ℕ → ℕ → ℕ → Option (List ℕ) → Type 0
+Passes test text n k None = NoneIs test (rows_from n text)
+Passes test text n k (Some left) = Passed test text n k left
 
-pub passed_none : (text : List ℕ) (n : ℕ) → Passed text n n text
-passed_none text n = record {
+pub passed_none : (test : List Word → Bool) (text : List ℕ) (n : ℕ) → Passed test text n n text
+passed_none test text n = record {
   done = [];
-  lines = [];
+  rows = [];
   text_is = refl;
   whole = λ behind. refl;
-  count = omega arith;
-  none = tt;
+  none = All-nil (λ (line : NumberedLine). test line.words ≡ false);
 }
 
-pub passed_at : (text : List ℕ) (n k : ℕ) (rest : Option (List ℕ)) (left : List ℕ)
-    → Passes text n k rest → rest ≡ Some left → Passed text n k left
-passed_at text n k rest left passes is = subst (λ (o : Option (List ℕ)). Passes text n k o) is passes
+pub passed_at : (test : List Word → Bool) (text : List ℕ) (n k : ℕ) (rest : Option (List ℕ)) (left : List ℕ)
+    → Passes test text n k rest → rest ≡ Some left → Passed test text n k left
+passed_at test text n k rest left passes is = subst (λ (o : Option (List ℕ)). Passes test text n k o) is passes
 
-pub passed_line : (text : List ℕ) (n k : ℕ) (left line : List ℕ) (after : Option (List ℕ))
-    → Passed text n k left → slice_split is_newline left ≡ line ∷ lines_of after
-    → is_title (words_of line) ≡ false → Passes text n (k + 1) after
-passed_line text n k left line None passed split here =
-    let all : slice_split is_newline text
-    ≡ passed.lines
-    ++ line ∷ [] = ap (slice_split is_newline) passed.text_is ∙ passed.whole left
-    ∙ ap (λ ls. passed.lines ++ ls) split in
-    subst NoTitles (sym all) (no_titles_more passed.lines line passed.none here)
-passed_line text n k left line (Some more) passed split here = record {
+none_line : (test : List Word → Bool) (n : ℕ) (words : List Word) → test words ≡ false → NoneIs test (with_line n words [])
+none_line test n [] here = All-nil (λ (line : NumberedLine). test line.words ≡ false)
+none_line test n (word ∷ words) here =
+    All-cons (λ (line : NumberedLine). test line.words ≡ false) (record { number = n; words = word ∷ words }) [] here
+    (All-nil (λ (line : NumberedLine). test line.words ≡ false))
+
+none_more : (test : List Word → Bool) (rows : List NumberedLine) (k : ℕ) (words : List Word)
+    → NoneIs test rows → test words ≡ false → NoneIs test (rows ++ with_line k words [])
+none_more test rows k words none here =
+    All-append (λ (line : NumberedLine). test line.words ≡ false) rows (with_line k words []) none (none_line test k words here)
+
+pub passed_line : (test : List Word → Bool) (text : List ℕ) (n k : ℕ) (left line : List ℕ) (after : Option (List ℕ))
+    → Passed test text n k left → slice_split is_newline left ≡ line ∷ lines_of after
+    → test (words_of line) ≡ false → Passes test text n (k + 1) after
+passed_line test text n k left line None passed split here =
+    let all : rows_from n text
+    ≡ passed.rows
+    ++ with_line k (words_of line) [] = ap (rows_from n) passed.text_is ∙ passed.whole left
+    ∙ ap (λ ls. passed.rows ++ rows_at k ls) split in
+    subst (NoneIs test) (sym all) (none_more test passed.rows k (words_of line) passed.none here)
+passed_line test text n k left line (Some more) passed split here = record {
   done = passed.done ++ (line ++ 10 ∷ []);
-  lines = passed.lines ++ line ∷ [];
+  rows = passed.rows ++ with_line k (words_of line) [];
   text_is =
       passed.text_is
       ∙ ap (λ t. passed.done ++ t)
       (text_of_first left line more split ∙ sym (append_assoc line (10 ∷ []) more))
       ∙ sym (append_assoc passed.done (line ++ 10 ∷ []) more);
   whole =
-      λ behind. ap (slice_split is_newline)
+      λ behind. ap (rows_from n)
       (append_assoc passed.done (line ++ 10 ∷ []) behind
       ∙ ap (λ t. passed.done ++ t) (append_assoc line (10 ∷ []) behind))
       ∙ passed.whole (line ++ 10 ∷ behind)
-      ∙ ap (λ ls. passed.lines ++ ls) (follows left line more behind split)
-      ∙ sym (append_assoc passed.lines (line ∷ []) (slice_split is_newline behind));
-  count =
-      let more : length (passed.lines ++ line ∷ [])
-      ≡ length passed.lines + 1 = length-append passed.lines (line ∷ []) in
-      omega (arith, passed.count, more);
-  none = no_titles_more passed.lines line passed.none here;
+      ∙ ap (λ ls. passed.rows ++ rows_at k ls) (follows left line more behind split)
+      ∙ ap (λ rows. passed.rows ++ rows)
+      (front_append k (words_of line) [] (rows_from (k + 1) behind) (rows_from (k + 1) behind) refl)
+      ∙ sym (append_assoc passed.rows (with_line k (words_of line) []) (rows_from (k + 1) behind));
+  none = none_more test passed.rows k (words_of line) passed.none here;
 }
 
 own_is : (text done left : List ℕ) → text ≡ done ++ left → take (length text - length left) text ≡ done
@@ -299,55 +242,96 @@ own_is text done left is =
     let len : length text - length left ≡ length done + 0 = omega (arith, ap length is, length-append done left) in
     ap (λ n. take n text) len ∙ ap (take (length done + 0)) is ∙ take-append-add done left 0 ∙ append-nil done
 
-own_rows : (n : ℕ) (own : List ℕ) (lines : List (List ℕ))
-    → slice_split is_newline own ≡ lines ++ [] ∷ [] → rows_from n own ≡ rows_at n lines
-own_rows n own lines is =
-    let none : words_of [] ≡ [] = words_of_empty [] refl in
-    ap (rows_at n) is ∙ rows_append n lines ([] ∷ [])
-    ∙ ap (λ words. rows_at n lines ++ with_line (n + length lines) words []) none
-    ∙ append-nil (rows_at n lines)
+-- a text without bytes has no line with words
+bare_rows : (n : ℕ) → rows_from n [] ≡ []
+bare_rows n = let none : words_of [] ≡ [] = words_of_empty [] refl in ap (λ words. with_line n words []) none
 
 behind_rows : (n : ℕ) (after : Option (List ℕ)) → left_at n after ≡ rows_from n (or_nothing after)
-behind_rows n None = let none : words_of [] ≡ [] = words_of_empty [] refl in sym (ap (λ words. with_line n words []) none)
+behind_rows n None = sym (bare_rows n)
 behind_rows n (Some text) = refl
 
-module _ (text : List ℕ) (n k : ℕ) (left line : List ℕ) (after : Option (List ℕ))
-    (passed : Passed text n k left) (split : slice_split is_newline left ≡ line ∷ lines_of after)
-    (title : is_title (words_of line) ≡ true) where
-  all_rows : rows_from n text ≡ rows_at n passed.lines ++ with_line k (words_of line) (left_at (k + 1) after)
-  all_rows =
-      ap (rows_from n) passed.text_is ∙ ap (rows_at n) (passed.whole left) ∙ rows_append n passed.lines (slice_split is_newline left)
-      ∙ ap (λ m. rows_at n passed.lines ++ rows_at m (slice_split is_newline left)) (sym passed.count)
-      ∙ ap (λ ls. rows_at n passed.lines ++ rows_at k ls) split
-
-  pub cut_own : up_to_title (rows_from n text) ≡ rows_from n (take (length text - length left) text)
-  cut_own =
-      let own : rows_from n (take (length text - length left) text) ≡ rows_at n passed.lines =
+module _ (test : List Word → Bool) (text : List ℕ) (n k : ℕ) (left line : List ℕ) (after : Option (List ℕ))
+    (passed : Passed test text n k left) (split : slice_split is_newline left ≡ line ∷ lines_of after) where
+  own_rows : rows_from n (take (length text - length left) text) ≡ passed.rows
+  own_rows =
       ap (rows_from n) (own_is text passed.done left passed.text_is ∙ sym (append-nil passed.done))
-      ∙ own_rows n (passed.done ++ []) passed.lines (passed.whole []) in
-      ap up_to_title all_rows ∙ up_to_lines n passed.lines (with_line k (words_of line) (left_at (k + 1) after)) passed.none
-      ∙ ap (λ rows. rows_at n passed.lines ++ rows)
-      (up_to_here k (words_of line) (left_at (k + 1) after) title)
-      ∙ append-nil (rows_at n passed.lines) ∙ sym own
+      ∙ passed.whole [] ∙ ap (λ rows. passed.rows ++ rows) (bare_rows k)
+      ∙ append-nil passed.rows
 
-  pub cut_blocks : blocks_of (rows_from n text)
-      ≡ record
-      { id = id_of (words_of line); lines = up_to_title (rows_from (k + 1) (or_nothing after)) }
-      ∷ blocks_of (rows_from (k + 1) (or_nothing after))
-  cut_blocks =
-      ap blocks_of all_rows ∙ blocks_behind n passed.lines (with_line k (words_of line) (left_at (k + 1) after)) passed.none
-      ∙ block_here k (words_of line) (left_at (k + 1) after) title
-      ∙ ap (λ rows. record { id = id_of (words_of line); lines = up_to_title rows } ∷ blocks_of rows) (behind_rows (k + 1) after)
+  pub found_all : holds_word (words_of line) ≡ true → rows_from n text
+      ≡ rows_from n (take (length text - length left) text)
+      ++ record { number = k; words = words_of line } ∷ rows_from (k + 1) (or_nothing after)
+  found_all some =
+      ap (rows_from n) passed.text_is ∙ passed.whole left
+      ∙ ap (λ ls. passed.rows ++ rows_at k ls) split
+      ∙ ap (λ rows. passed.rows ++ rows) (worded k (words_of line) (left_at (k + 1) after) some)
+      ∙ ap (λ rows. passed.rows ++ record { number = k; words = words_of line } ∷ rows) (behind_rows (k + 1) after)
+      ∙ ap (λ rows. rows ++ record { number = k; words = words_of line } ∷ rows_from (k + 1) (or_nothing after)) (sym own_rows)
 
--- if no line of a text is a title, `up_to_title` leaves out no line with words
-pub uncut_own : (text : List ℕ) (n : ℕ) → NoTitles (slice_split is_newline text) → up_to_title (rows_from n text) ≡ rows_from n text
-uncut_own text n none =
-    ap up_to_title (sym (append-nil (rows_from n text)))
-    ∙ up_to_lines n (slice_split is_newline text) [] none ∙ append-nil (rows_from n text)
+  pub found_earlier : NoneIs test (rows_from n (take (length text - length left) text))
+  found_earlier = subst (NoneIs test) (sym own_rows) passed.none
 
-pub uncut_blocks : (text : List ℕ) (n : ℕ) → NoTitles (slice_split is_newline text) → blocks_of (rows_from n text) ≡ []
-uncut_blocks text n none =
-    ap blocks_of (sym (append-nil (rows_from n text))) ∙ blocks_behind n (slice_split is_newline text) [] none
+-- if no line with words has words, there is no line with words
+wordless : (n : ℕ) (lines : List (List ℕ)) → NoneIs holds_word (rows_at n lines) → rows_at n lines ≡ []
+wordless n [] none = refl
+wordless n (line ∷ lines) none = by_words (words_of line) none (wordless (n + 1) lines)
+  where
+    by_words : (words : List Word) → NoneIs holds_word (with_line n words (rows_at (n + 1) lines))
+        → (NoneIs holds_word (rows_at (n + 1) lines) → rows_at (n + 1) lines ≡ [])
+        → with_line n words (rows_at (n + 1) lines) ≡ []
+    by_words [] none below = below none
+    by_words (word ∷ words) none below = let clash : true ≡ false = none 0 (record { number = n; words = [] }) (omega arith) in absurd cc
+
+-- What the first line of a kind says of all lines of a text. Without such a line, all lines are like the lines before it.
+module _ (n : ℕ) (text : List ℕ) where
+  pub no_start : NoneIs (is_of_kind WithWords) (rows_from n text) → start_fault (rows_from n text) ≡ None
+  no_start none = ap start_fault (wordless n (slice_split is_newline text) none)
+
+  pub no_wrong : NoneIs (is_of_kind WrongTitle) (rows_from n text) → title_fault (rows_from n text) ≡ None
+  no_wrong none = ap title_fault (sym (append-nil (rows_from n text))) ∙ right_before (rows_from n text) [] none
+
+  pub uncut_own : NoneIs (is_of_kind AnyTitle) (rows_from n text) → up_to_title (rows_from n text) ≡ rows_from n text
+  uncut_own none = ap up_to_title (sym (append-nil (rows_from n text))) ∙ rows_up_to (rows_from n text) [] none refl
+
+  pub uncut_blocks : NoneIs (is_of_kind AnyTitle) (rows_from n text) → blocks_of (rows_from n text) ≡ []
+  uncut_blocks none = ap blocks_of (sym (append-nil (rows_from n text))) ∙ rows_blocks (rows_from n text) [] none
+
+  module _ (found : FoundLine) where
+    abbrev row : NumberedLine
+    row = record { number = found.number; words = words_of found.line.now }
+
+    abbrev before : List NumberedLine
+    before = rows_from n found.before.now
+
+    abbrev behind : List NumberedLine
+    behind = rows_from (found.number + 1) found.behind.now
+
+    pub start_found : IsFirstLine (is_of_kind WithWords) n text found
+        → start_fault (rows_from n text)
+        ≡ start_fault (record { number = found.number; words = words_of found.line.now } ∷ [])
+    start_found first =
+        ap start_fault first.all
+        ∙ ap (λ rows. start_fault (rows ++ row ∷ behind))
+        (wordless n (slice_split is_newline found.before.now) first.earlier)
+
+    pub wrong_found : IsFirstLine (is_of_kind WrongTitle) n text found → title_fault (rows_from n text) ≡ Some (Title found.number)
+    wrong_found first =
+        ap title_fault first.all ∙ right_before before (row ∷ behind) first.earlier
+        ∙ ap (λ b. cond b (Some (Title found.number)) (title_fault behind)) first.here
+
+    pub cut_own : IsFirstLine (is_of_kind AnyTitle) n text found → up_to_title (rows_from n text) ≡ rows_from n found.before.now
+    cut_own first =
+        ap up_to_title first.all
+        ∙ rows_up_to before (row ∷ behind) first.earlier (up_to_first row behind first.here)
+
+    pub cut_blocks : IsFirstLine (is_of_kind AnyTitle) n text found
+        → blocks_of (rows_from n text)
+        ≡ record
+        { id = id_of (words_of found.line.now); lines = up_to_title (rows_from (found.number + 1) found.behind.now) }
+        ∷ blocks_of (rows_from (found.number + 1) found.behind.now)
+    cut_blocks first =
+        ap blocks_of first.all ∙ rows_blocks before (row ∷ behind) first.earlier
+        ∙ first_block row behind first.here
 
 -- if the first line of `left` is not empty, the rest after the line is shorter than `left`
 pub behind_less : (after : Option (Bor (List ℕ))) (line left : List ℕ)

@@ -2,7 +2,6 @@
 use Rattle.std.proofs.Common.{◌≡◌, ℕ, ◌+◌, Bool, true, false, cond, not, Option, Some, None, Ok, Err, List, [], ◌∷◌, ◌++◌, length, suc, refl, sym, ap, ◌∙◌, subst, arith, append_assoc, append-nil}
 use Rattle.std.specs.Prelude.{All, codes, ◌&&◌}
 use Rattle.std.proofs.lemmas.List.Elements.{All-nil, All-cons, All-head, All-tail}
-use Rattle.std.proofs.lemmas.List.Sums.{take_while-cons}
 use Rattle.std.proofs.lemmas.Slice.Eq.{bytes_eq-Decides}
 use Rattle.text_lines.specs.Words.{Word, is_word}
 use Rattle.response_log.specs.declared.fault.LogFault.{LogFault}
@@ -11,10 +10,8 @@ use Rattle.batch_diag.specs.declared.block.Block.{Block}
 use Rattle.batch_diag.specs.declared.fault.BatchFault.{BatchFault}
 use Rattle.batch_diag.specs.declared.fault.BatchFault.TheVariants.{Start, Title, Inner, Memory}
 use Rattle.batch_diag.specs.Batch.{BatchAnswer, BlockLines, is_title, begins_block, id_of, names_board, is_wrong_title, start_fault, title_fault, up_to_title, blocks_of, onto, block_then, logs_from, unless_wrong, blocks_of_lines}
+use Rattle.batch_diag.proofs.RowLemmas.{IsRow, rows_right, rows_blocks, up_to_row, up_to_first, rows_up_to}
 use Rattle.batch_diag.specs.Laws.{IsBlockOf, AreBlocksOf, BlocksAreTheLines, IsFirstFault, FaultIsTheFirst}
-
-abbrev IsRow : NumberedLine → Type 0
-IsRow line = begins_block line ≡ false
 
 -- if a title names a board, its two words are `BOARD` and the id
 pub title_words : (words : List Word) → is_title words ≡ true → names_board words ≡ true
@@ -31,43 +28,6 @@ not_wrong : (line : NumberedLine) (id : Word) → line.words ≡ codes "BOARD" �
 not_wrong line id is word =
     ap (λ (b : Bool). b && not (names_board line.words)) (is_title_of line.words id is)
     ∙ ap (λ (ws : List Word). not (names_board ws)) is ∙ ap not word
-
-row_not_wrong : (line : NumberedLine) → begins_block line ≡ false → is_wrong_title line ≡ false
-row_not_wrong line row = ap (λ (b : Bool). b && not (names_board line.words)) row
-
-rows_right : (own later : List NumberedLine) → All IsRow own → title_fault (own ++ later) ≡ title_fault later
-rows_right [] later rows = refl
-rows_right (line ∷ own) later rows =
-    ap (λ (b : Bool). cond b (Some (Title line.number)) (title_fault (own ++ later)))
-    (row_not_wrong line (All-head IsRow line own rows))
-    ∙ rows_right own later (All-tail IsRow line own rows)
-
-rows_blocks : (own later : List NumberedLine) → All IsRow own → blocks_of (own ++ later) ≡ blocks_of later
-rows_blocks [] later rows = refl
-rows_blocks (line ∷ own) later rows =
-    ap
-    (λ (b : Bool). cond b
-    (record { id = id_of line.words; lines = up_to_title (own ++ later) }
-    ∷ blocks_of (own ++ later)) (blocks_of (own ++ later))) (All-head IsRow line own rows)
-    ∙ rows_blocks own later (All-tail IsRow line own rows)
-
-up_to_row : (line : NumberedLine) (lines : List NumberedLine) → begins_block line ≡ false
-    → up_to_title (line ∷ lines) ≡ line ∷ up_to_title lines
-up_to_row line lines row =
-    take_while-cons (λ l. not (begins_block l)) line lines
-    ∙ ap (λ (b : Bool). cond (not b) (line ∷ up_to_title lines) []) row
-
-up_to_first : (line : NumberedLine) (lines : List NumberedLine) → begins_block line ≡ true → up_to_title (line ∷ lines) ≡ []
-up_to_first line lines title =
-    take_while-cons (λ l. not (begins_block l)) line lines
-    ∙ ap (λ (b : Bool). cond (not b) (line ∷ up_to_title lines) []) title
-
-rows_up_to : (own later : List NumberedLine) → All IsRow own → up_to_title later ≡ [] → up_to_title (own ++ later) ≡ own
-rows_up_to [] later rows none = none
-rows_up_to (line ∷ own) later rows none =
-    up_to_row line (own ++ later) (All-head IsRow line own rows)
-    ∙ ap (λ (ls : List NumberedLine). line ∷ ls)
-    (rows_up_to own later (All-tail IsRow line own rows) none)
 
 -- `blocks_of_lines` returns a list of blocks if and only if the lines are the lines of these blocks.
 module _ (rows len : ℕ) where

@@ -1,3 +1,4 @@
+mod RowLemmas
 mod CutLemmas
 mod FaultLemmas
 mod ReadLemmas

@@ -17,7 +17,8 @@ use Rattle.batch_diag.specs.BatchText.{title_line, IsBatchText}
 use Rattle.batch_diag.specs.Verdicts.{EachPair}
 use Rattle.batch_diag.specs.OwnTexts.{BlockText, lines_of_block, own_text, IsTitle, IsNoTitle, IsCutTo, HoldsBlock, HoldsBlocks, BlocksByThemselves, moved_fault, FaultByItself, AreDiagnosesOf, DiagnosesByThemselves}
 use Rattle.batch_diag.specs.inner.Cutting.{rows_from}
-use Rattle.batch_diag.proofs.CutLemmas.{NoTitles, rows_at, with_line, start_here, title_right, title_wrong, title_words, rows_append, up_to_lines, blocks_behind, up_to_here, block_here}
+use Rattle.batch_diag.proofs.CutLemmas.{rows_at, with_line, worded, title_right, title_wrong, title_words, rows_append}
+use Rattle.batch_diag.proofs.RowLemmas.{IsRow, rows_right, rows_blocks, first_block, up_to_first, rows_before}
 use Rattle.batch_diag.proofs.FaultLemmas.{moved, said_at_place}
 use Rattle.batch_diag.proofs.LawLemmas.{title_words as named_words, no_fault}
 
@@ -68,9 +69,21 @@ cut : (lines : List (List ℕ)) → Cut lines
 cut [] = record { front = []; texts = []; all = refl; none = All-nil IsNoTitle; titles = All-nil HasTitle; below = All-nil HasRows }
 cut (line ∷ lines) = cut_at line lines (is_title (words_of line)) refl (cut lines)
 
-no_titles : (lines : List (List ℕ)) → All IsNoTitle lines → NoTitles lines
-no_titles [] none = tt
-no_titles (line ∷ lines) none = (All-head IsNoTitle line lines none, no_titles lines (All-tail IsNoTitle line lines none))
+with_row : (n : ℕ) (words : List Word) (rows : List NumberedLine) → is_title words ≡ false → All IsRow rows
+    → All IsRow (with_line n words rows)
+with_row n [] rows row rest = rest
+with_row n (word ∷ words) rows row rest = All-cons IsRow (record { number = n; words = word ∷ words }) rows row rest
+
+no_titles : (n : ℕ) (lines : List (List ℕ)) → All IsNoTitle lines → All IsRow (rows_at n lines)
+no_titles n [] none = All-nil IsRow
+no_titles n (line ∷ lines) none =
+    with_row n (words_of line) (rows_at (n + 1) lines) (All-head IsNoTitle line lines none)
+    (no_titles (n + 1) lines (All-tail IsNoTitle line lines none))
+
+-- a title comes before the later lines
+titled : (n : ℕ) (title : List ℕ) (later : List NumberedLine) → IsTitle title
+    → with_line n (words_of title) later ≡ record { number = n; words = words_of title } ∷ later
+titled n title later is = worded n (words_of title) later (title_words (words_of title) is)
 
 -- No byte of the line is a newline. Each line of a text has this property.
 abbrev IsClean : List ℕ → Type 0
@@ -135,16 +148,18 @@ placed m (text ∷ texts) =
 up_to_texts : (m : ℕ) (texts : List BlockText) → All HasTitle texts → up_to_title (rows_at m (lines_in texts)) ≡ []
 up_to_texts m [] titles = refl
 up_to_texts m (text ∷ texts) titles =
-    up_to_here m (words_of text.title) (rows_at (m + 1) (text.below ++ lines_in texts))
-    (All-head HasTitle text texts titles)
+    let later = rows_at (m + 1) (text.below ++ lines_in texts) in
+    let title = All-head HasTitle text texts titles in
+    ap up_to_title (titled m text.title later title)
+    ∙ up_to_first (record { number = m; words = words_of text.title }) later title
 
 below_title : (m : ℕ) (text : BlockText) (texts : List BlockText) → All HasTitle texts
     → All IsNoTitle text.below
     → up_to_title (rows_at (m + 1) (text.below ++ lines_in texts)) ≡ rows_at (m + 1) text.below
 below_title m text texts titles below =
     ap up_to_title (rows_append (m + 1) text.below (lines_in texts))
-    ∙ up_to_lines (m + 1) text.below (rows_at (m + 1 + length text.below) (lines_in texts))
-    (no_titles text.below below)
+    ∙ rows_before (rows_at (m + 1) text.below) (rows_at (m + 1 + length text.below) (lines_in texts))
+    (no_titles (m + 1) text.below below)
     ∙ ap (λ (ls : List NumberedLine). rows_at (m + 1) text.below ++ ls)
     (up_to_texts (m + 1 + length text.below) texts titles)
     ∙ append-nil (rows_at (m + 1) text.below)
@@ -152,14 +167,17 @@ below_title m text texts titles below =
 blocks_placed : (n : ℕ) (front : List (List ℕ)) (texts : List BlockText) → All IsNoTitle front
     → All HasTitle texts → All HasRows texts
     → blocks_of (rows_at n (front ++ lines_in texts)) ≡ placed (n + length front) texts
-blocks_placed n front [] none titles below = ap blocks_of (rows_append n front []) ∙ blocks_behind n front [] (no_titles front none)
+blocks_placed n front [] none titles below = ap blocks_of (rows_append n front []) ∙ rows_blocks (rows_at n front) [] (no_titles n front none)
 blocks_placed n front (text ∷ texts) none titles below =
     let m = n + length front in
+    let title = All-head HasTitle text texts titles in
     let later = All-tail HasTitle text texts titles in
     let own = All-head HasRows text texts below in
     ap blocks_of (rows_append n front (lines_in (text ∷ texts)))
-    ∙ blocks_behind n front (rows_at m (lines_in (text ∷ texts))) (no_titles front none)
-    ∙ block_here m (words_of text.title) (rows_at (m + 1) (text.below ++ lines_in texts)) (All-head HasTitle text texts titles)
+    ∙ rows_blocks (rows_at n front) (rows_at m (lines_in (text ∷ texts))) (no_titles n front none)
+    ∙ ap blocks_of (titled m text.title (rows_at (m + 1) (text.below ++ lines_in texts)) title)
+    ∙ first_block (record { number = m; words = words_of text.title })
+    (rows_at (m + 1) (text.below ++ lines_in texts)) title
     ∙ ap
     (λ (ls : List NumberedLine). record { id = id_of (words_of text.title); lines = ls }
     ∷ blocks_of (rows_at (m + 1) (text.below ++ lines_in texts)))
@@ -169,26 +187,12 @@ blocks_placed n front (text ∷ texts) none titles below =
     { id = id_of (words_of text.title); lines = rows_at (m + 1) text.below } ∷ bs)
     (blocks_placed (m + 1) text.below texts own later (All-tail HasRows text texts below))
 
-title_front : (n : ℕ) (words : List Word) (rows later : List NumberedLine) → is_title words ≡ false
-    → title_fault (rows ++ later) ≡ title_fault later
-    → title_fault (with_line n words rows ++ later) ≡ title_fault later
-title_front n [] rows later title below = below
-title_front n (word ∷ words) rows later title below =
-    ap (λ (b : Bool). cond (b && not (names_board (word ∷ words))) (Some (Title n)) (title_fault (rows ++ later))) title ∙ below
-
-titles_behind : (n : ℕ) (lines : List (List ℕ)) (later : List NumberedLine) → All IsNoTitle lines
-    → title_fault (rows_at n lines ++ later) ≡ title_fault later
-titles_behind n [] later none = refl
-titles_behind n (line ∷ lines) later none =
-    title_front n (words_of line) (rows_at (n + 1) lines) later (All-head IsNoTitle line lines none)
-    (titles_behind (n + 1) lines later (All-tail IsNoTitle line lines none))
-
 titles_after : (n : ℕ) (lines : List (List ℕ)) (texts : List BlockText) → All IsNoTitle lines
     → title_fault (rows_at n (lines ++ lines_in texts))
     ≡ title_fault (rows_at (n + length lines) (lines_in texts))
 titles_after n lines texts none =
     ap title_fault (rows_append n lines (lines_in texts))
-    ∙ titles_behind n lines (rows_at (n + length lines) (lines_in texts)) none
+    ∙ rows_right (rows_at n lines) (rows_at (n + length lines) (lines_in texts)) (no_titles n lines none)
 
 named : (words : List Word) (names : Bool) → names_board words ≡ names → is_title words ≡ true
     → (is_title words && not (names_board words)) ≡ false → names_board words ≡ true
@@ -271,8 +275,7 @@ texts_start : (m : ℕ) (texts : List BlockText) → All HasTitle texts → star
 texts_start m [] titles = refl
 texts_start m (text ∷ texts) titles =
     let title = All-head HasTitle text texts titles in
-    start_here m (words_of text.title) (rows_at (m + 1) (text.below ++ lines_in texts))
-    (title_words (words_of text.title) title)
+    ap start_fault (titled m text.title (rows_at (m + 1) (text.below ++ lines_in texts)) title)
     ∙ ap (λ (b : Bool). cond b None (Some (Start m))) title
 
 start_none : (n : ℕ) (front : List (List ℕ)) (texts : List BlockText) → All IsBlank front

@@ -1,10 +1,10 @@
 // Cuts the text of a batch at its titles. A title is a line whose first word is `BOARD`, and it begins a block.
-ghost use Rattle.std.specs.Prelude.{◌≡◌, ◌+◌, ◌<◌, ◌≤◌, ◌^◌, ◌∷◌, [], ◌&&◌, not, length, map, IfOk, IfSome, option_copied};
+ghost use Rattle.std.specs.Prelude.{◌≡◌, ◌+◌, ◌<◌, ◌≤◌, ◌^◌, ◌∷◌, [], ◌&&◌, not, length, map, IfOk, IfSome, MatchOption, option_copied};
 ghost use Rattle.text_lines.specs.Words.{words_of};
 ghost use Rattle.response_log.specs.LogRows.{holds_word, row_lines};
 ghost use Rattle.batch_diag.specs.Batch.{is_title, first_or_none, id_of, is_id, names_board, start_fault, title_fault, up_to_title, blocks_of};
 ghost use Rattle.batch_diag.specs.inner.Reading.{lines_of_unread};
-ghost use Rattle.batch_diag.specs.inner.Cutting.{rows_from, begins_row, blocks_at, or_nothing};
+ghost use Rattle.batch_diag.specs.inner.Cutting.{IsFirstLine, NoneIs, rows_from, begins_row, blocks_at, is_of_kind, or_nothing};
 
 use crate::fault::BatchFault;
 use crate::unread::UnreadBlock;
@@ -97,21 +97,74 @@ fn is_wrong_title(line: &[u8]) -> bool
     is_title(line) && !names_board(line)
 }
 
+// A kind of line: a line with words, a title, or a wrong title.
+#[derive(Clone, Copy)]
+enum LineKind {
+    WithWords,
+    AnyTitle,
+    WrongTitle,
+}
+
+// Returns whether a line is of this kind.
+fn is_of_kind(line: &[u8], kind: LineKind) -> bool
+    ensures { result ≡ is_of_kind kind (words_of line.now) }
+{
+    match kind {
+        LineKind::WithWords => has_words(line),
+        LineKind::AnyTitle => is_title(line),
+        LineKind::WrongTitle => is_wrong_title(line),
+    }
+}
+
+// A line of a text: its number, the text before it, its bytes, and the text after it.
+#[derive(Clone, Copy)]
+struct FoundLine<'a> {
+    number: usize,
+    before: &'a [u8],
+    line: &'a [u8],
+    behind: &'a [u8],
+}
+
+// Returns the text, or no bytes if there is no text.
+fn or_nothing(text: Option<&[u8]>) -> &[u8]
+    ensures { result.now ≡ or_nothing (option_copied text.entry) }
+{
+    text.unwrap_or(b"")
+}
+
+// Returns the first line of this kind in a text, or `None` if no line is of this kind. The first line of the text has the number `number`.
+// The sum of `number` and the length of the text must be below 2^33.
+fn find_line(text: &[u8], number: usize, kind: LineKind) -> Option<FoundLine<'_>>
+    requires { number + length text.now < 2 ^ 33 }
+    ensures { MatchOption result (NoneIs (is_of_kind kind) (rows_from number text.now))
+        (IsFirstLine (is_of_kind kind) number text.now) }
+{
+    let mut rest = Some(text);
+    let mut line_number = number;
+    while let Some(left) = rest {
+        let (line, after) = first_line(left);
+        if is_of_kind(line, kind) {
+            return Some(FoundLine {
+                number: line_number,
+                before: &text[..text.len() - left.len()],
+                line,
+                behind: or_nothing(after),
+            });
+        }
+        line_number += 1;
+        rest = after;
+    }
+    None
+}
+
 /// Returns the fault of a text's first line with words, if this line is not a title. Otherwise returns `None`.
 pub fn start_fault(text: TextSlice<'_>) -> Option<BatchFault>
     ensures { result ≡ start_fault (row_lines text.entry.items.now) }
 {
-    let mut rest = Some(text.items);
-    let mut number = 1usize;
-    while let Some(left) = rest {
-        let (line, after) = first_line(left);
-        if has_words(line) {
-            return no_title(line, number as u32);
-        }
-        number += 1;
-        rest = after;
+    match find_line(text.items, 1, LineKind::WithWords) {
+        Some(found) => no_title(found.line, found.number as u32),
+        None => None,
     }
-    None
 }
 
 // Returns `Start(number)` unless the line is a title, and otherwise `None`. The line is the first line of the
@@ -131,24 +184,10 @@ fn no_title(line: &[u8], number: u32) -> Option<BatchFault>
 pub fn title_fault(text: TextSlice<'_>) -> Option<BatchFault>
     ensures { result ≡ title_fault (row_lines text.entry.items.now) }
 {
-    let mut rest = Some(text.items);
-    let mut number = 1usize;
-    while let Some(left) = rest {
-        let (line, after) = first_line(left);
-        if is_wrong_title(line) {
-            return Some(BatchFault::Title(number as u32));
-        }
-        number += 1;
-        rest = after;
+    match find_line(text.items, 1, LineKind::WrongTitle) {
+        Some(found) => Some(BatchFault::Title(found.number as u32)),
+        None => None,
     }
-    None
-}
-
-// Returns the text, or no bytes if there is no text.
-fn or_nothing(text: Option<&[u8]>) -> &[u8]
-    ensures { result.now ≡ or_nothing (option_copied text.entry) }
-{
-    text.unwrap_or(b"")
 }
 
 /// Cuts a text at its first title. Returns the text before the title, and the title. If the text has no title, returns the whole text and
@@ -162,22 +201,17 @@ pub fn cut_at_title(text: &[u8], number: usize) -> (&[u8], Option<Title<'_>>)
     ensures place { IfSome result.1
         (λ title. title.line + length title.behind.now + 1 ≤ number + length text.now) }
 {
-    let mut rest = Some(text);
-    let mut line_number = number;
-    while let Some(left) = rest {
-        let (line, after) = first_line(left);
-        if is_title(line) {
+    match find_line(text, number, LineKind::AnyTitle) {
+        Some(found) => {
             let title = Title {
-                line: line_number,
-                id: id_of(line),
-                behind: or_nothing(after),
+                line: found.number,
+                id: id_of(found.line),
+                behind: found.behind,
             };
-            return (&text[..text.len() - left.len()], Some(title));
+            (found.before, Some(title))
         }
-        line_number += 1;
-        rest = after;
+        None => (text, None),
     }
-    (text, None)
 }
 
 // Returns the block with this title and the text `own`, which follows the title and ends before the next title. The sum of the title's line

@@ -1,14 +1,17 @@
 -- The steps that cut the text of a batch into the texts of its blocks.
-use Rattle.std.specs.Prelude.{ℕ, ◌+◌, ◌≤◌, ◌==◌, Bool, false, not, ◌&&◌, List, [], ◌∷◌, filter, Option, Some, None, Result, Ok, Err}
+use Rattle.std.specs.Prelude.{◌≡◌, ℕ, ◌+◌, ◌≤◌, ◌==◌, Bool, true, false, not, ◌&&◌, List, [], ◌∷◌, ◌++◌, length, filter, All, Option, Some, None, Result, Ok, Err}
 use Rattle.std.specs.List.{slice_split}
-use Rattle.text_lines.specs.Words.{is_newline, is_line_blank}
+use Rattle.text_lines.specs.Words.{Word, words_of, is_newline, is_line_blank}
 use Rattle.response_log.specs.declared.fault.LogFault.{LogFault}
 use Rattle.response_log.specs.declared.fault.LogFault.TheVariants.{Digit, Length, Missing, Extra, Memory as LogMemory}
-use Rattle.response_log.specs.LogRows.{NumberedLine, numbered_lines, has_words, LogAnswer}
+use Rattle.response_log.specs.LogRows.{NumberedLine, numbered_lines, holds_word, has_words, LogAnswer}
 use Rattle.batch_diag.specs.declared.fault.BatchFault.{BatchFault}
 use Rattle.batch_diag.specs.declared.fault.BatchFault.TheVariants.{Inner, Memory}
+use Rattle.batch_diag.specs.declared.lines.FoundLine.{FoundLine}
+use Rattle.batch_diag.specs.declared.lines.LineKind.{LineKind}
+use Rattle.batch_diag.specs.declared.lines.LineKind.TheVariants.{WithWords, AnyTitle, WrongTitle}
 use Rattle.batch_diag.specs.declared.lines.Title.{Title}
-use Rattle.batch_diag.specs.Batch.{BlockLines, blocks_of, up_to_title}
+use Rattle.batch_diag.specs.Batch.{BlockLines, blocks_of, is_title, names_board, up_to_title}
 
 -- The lines of a text that have words. The first line of the text has the number `n`.
 abbrev pub rows_from : ℕ → List ℕ → List NumberedLine
@@ -18,6 +21,28 @@ rows_from n text = filter has_words (numbered_lines n (slice_split is_newline te
 abbrev pub begins_row : List ℕ → Bool
 begins_row [] = false
 begins_row (b ∷ bs) = not (b == 66) && not (is_line_blank b)
+
+-- true if a line with these words is of this kind
+abbrev pub is_of_kind : LineKind → List Word → Bool
+is_of_kind WithWords words = holds_word words
+is_of_kind AnyTitle words = is_title words
+is_of_kind WrongTitle words = is_title words && not (names_board words)
+
+-- none of the lines satisfies `test`
+abbrev pub NoneIs : (List Word → Bool) → List NumberedLine → Type 0
+NoneIs test lines = All (λ line. test line.words ≡ false) lines
+
+-- `found` is the first line of the text that satisfies `test`. The first line of the text has the number `n`.
+pub record IsFirstLine (test : List Word → Bool) (n : ℕ) (text : List ℕ) (found : FoundLine) : Type 0 where
+  pub all : rows_from n text
+      ≡ rows_from n found.before.now
+      ++ record { number = found.number; words = words_of found.line.now }
+      ∷ rows_from (found.number + 1) found.behind.now
+  pub earlier : NoneIs test (rows_from n found.before.now)
+  pub here : test (words_of found.line.now) ≡ true
+  pub within : length found.before.now ≤ length text
+  pub later : n ≤ found.number
+  pub place : found.number + length found.behind.now + 1 ≤ n + length text
 
 -- the text, or no bytes if there is no text
 abbrev pub or_nothing : Option (List ℕ) → List ℕ
