@@ -167,7 +167,9 @@ below_title m text texts titles below =
 blocks_placed : (n : ℕ) (front : List (List ℕ)) (texts : List BlockText) → All IsNoTitle front
     → All HasTitle texts → All HasRows texts
     → blocks_of (rows_at n (front ++ lines_in texts)) ≡ placed (n + length front) texts
-blocks_placed n front [] none titles below = ap blocks_of (rows_append n front []) ∙ rows_blocks (rows_at n front) [] (no_titles n front none)
+blocks_placed n front [] none titles below =
+    ap blocks_of (rows_append n front [])
+    ∙ rows_blocks (rows_at n front) [] (no_titles n front none)
 blocks_placed n front (text ∷ texts) none titles below =
     let m = n + length front in
     let title = All-head HasTitle text texts titles in
