@@ -207,6 +207,6 @@ fn answer<R: Threads + Sync, K: Sink, G: Gate>(
         Command::Make(parts) => summary(alloc, parts, out),
         Command::Diagnose { workers, files } => diagnosis(rt, alloc, files, workers, gate, out),
         Command::Groups(texts) => groups(alloc, texts, out),
-        Command::Batch { workers, files } => batch(rt, alloc, &files, workers, gate, out),
+        Command::Batch { workers, files } => batch(rt, alloc, files, workers, gate, out),
     }
 }

@@ -18,6 +18,7 @@ use batch_diag::{Block, Verdict, blocks_by, diagnose_blocks, write_batch};
 use board_defs::Board;
 use bt_base::{Gate, Sink};
 use bt_bits::Line;
+use command_line::LogFiles;
 use short_lists::ShortText;
 use side_by_side::Workers;
 use std::alloc::Global;
@@ -30,17 +31,18 @@ use std::thread::Threads;
 pub fn batch<R: Threads + Sync, K: Sink, G: Gate>(
     rt: &R,
     alloc: Global,
-    texts: &LogTexts,
+    texts: LogTexts,
     workers: Workers,
     gate: &G,
     out: &mut K,
 ) -> Result<(), Unput>
-    ensures { JudgedAnswers judging_each verdicts_text DiagnosesEach texts.now (K.shown out.old)
+    ensures { JudgedAnswers judging_each verdicts_text DiagnosesEach texts (K.shown out.old)
         (K.shown out.new) result }
 {
-    match planned_board(alloc, &texts.board) {
+    let LogFiles { log, board } = texts;
+    match planned_board(alloc, &board) {
         Ok(planned) => {
-            let put = put_batch(rt, alloc, &planned, &texts.log, workers, gate, out);
+            let put = put_batch(rt, alloc, &planned, &log, workers, gate, out);
             drop(planned);
             put
         }
