@@ -16,7 +16,7 @@ use Rattle.batch_diag.specs.declared.lines.FoundLine.{FoundLine}
 use Rattle.batch_diag.specs.declared.lines.LineKind.{LineKind}
 use Rattle.batch_diag.specs.declared.lines.LineKind.TheVariants.{WithWords, AnyTitle, WrongTitle}
 use Rattle.batch_diag.specs.inner.Cutting.{IsFirstLine, NoneIs, rows_from, begins_row, is_of_kind, or_nothing}
-use Rattle.batch_diag.proofs.RowLemmas.{right_before, rows_blocks, first_block, up_to_first, rows_up_to}
+use Rattle.batch_diag.proofs.RowLemmas.{right_before, none_wrong, rows_blocks, first_block, up_to_first, rows_up_to}
 
 -- The lines of `lines` that have words, with their numbers. The first of `lines` has the number `n`.
 abbrev pub rows_at : ℕ → List (List ℕ) → List NumberedLine
@@ -288,7 +288,7 @@ module _ (n : ℕ) (text : List ℕ) where
   no_start none = ap start_fault (wordless n (slice_split is_newline text) none)
 
   pub no_wrong : NoneIs (is_of_kind WrongTitle) (rows_from n text) → title_fault (rows_from n text) ≡ None
-  no_wrong none = ap title_fault (sym (append-nil (rows_from n text))) ∙ right_before (rows_from n text) [] none
+  no_wrong none = none_wrong (rows_from n text) none
 
   pub uncut_own : NoneIs (is_of_kind AnyTitle) (rows_from n text) → up_to_title (rows_from n text) ≡ rows_from n text
   uncut_own none = ap up_to_title (sym (append-nil (rows_from n text))) ∙ rows_up_to (rows_from n text) [] none refl

@@ -1,7 +1,7 @@
 -- Lemmas from which the laws of batches follow. The laws say which lines are a batch, and which fault is the first.
-use Rattle.std.proofs.Common.{◌≡◌, ℕ, ◌+◌, Bool, true, false, cond, not, Option, Some, None, Ok, Err, List, [], ◌∷◌, ◌++◌, length, suc, refl, sym, ap, ◌∙◌, subst, arith, append_assoc, append-nil}
+use Rattle.std.proofs.Common.{◌≡◌, ℕ, ◌+◌, Bool, true, false, cond, not, Option, Some, None, Ok, Err, List, [], ◌∷◌, ◌++◌, length, suc, refl, sym, ap, ◌∙◌, subst, arith, append_assoc}
 use Rattle.std.specs.Prelude.{All, codes, ◌&&◌}
-use Rattle.std.proofs.lemmas.List.Elements.{All-nil, All-cons, All-head, All-tail}
+use Rattle.std.proofs.lemmas.List.Elements.{All-nil, All-cons}
 use Rattle.std.proofs.lemmas.Slice.Eq.{bytes_eq-Decides}
 use Rattle.text_lines.specs.Words.{Word, is_word}
 use Rattle.response_log.specs.declared.fault.LogFault.{LogFault}
@@ -10,7 +10,7 @@ use Rattle.batch_diag.specs.declared.block.Block.{Block}
 use Rattle.batch_diag.specs.declared.fault.BatchFault.{BatchFault}
 use Rattle.batch_diag.specs.declared.fault.BatchFault.TheVariants.{Start, Title, Inner, Memory}
 use Rattle.batch_diag.specs.Batch.{BatchAnswer, BlockLines, is_title, begins_block, id_of, names_board, is_wrong_title, start_fault, title_fault, up_to_title, blocks_of, onto, block_then, logs_from, unless_wrong, blocks_of_lines}
-use Rattle.batch_diag.proofs.RowLemmas.{IsRow, rows_right, rows_blocks, up_to_row, up_to_first, rows_up_to}
+use Rattle.batch_diag.proofs.RowLemmas.{IsRow, IsRight, named, right_before, none_wrong, rows_right, rows_blocks, up_to_row, up_to_first, rows_up_to}
 use Rattle.batch_diag.specs.Laws.{IsBlockOf, AreBlocksOf, BlocksAreTheLines, IsFirstFault, FaultIsTheFirst}
 
 -- if a title names a board, its two words are `BOARD` and the id
@@ -156,14 +156,6 @@ module _ (rows len : ℕ) where
   right_behind line lines true is none = absurd cc
   right_behind line lines false is none = (is, none)
 
-  names_of : (line : NumberedLine) (names : Bool) → begins_block line ≡ true
-      → is_wrong_title line ≡ false → names_board line.words ≡ names → names ≡ true
-  names_of line true title right is = refl
-  names_of line false title right is =
-      let wrong : is_wrong_title line ≡ true = ap (λ (b : Bool). b && not (names_board line.words)) title ∙ ap not is in
-      let clash : true ≡ false = sym wrong ∙ right in
-      absurd cc
-
   split_line : (n : ℕ) (line : NumberedLine) (lines : List NumberedLine) (blocks : List Block)
       (title : Bool) → begins_block line ≡ title → is_wrong_title line ≡ false →
       logs_from rows len n
@@ -177,7 +169,7 @@ module _ (rows len : ℕ) where
       (logs_from rows len (n + 1) (blocks_of lines)) blocks refl is in
       title_more line lines blocks (logs_from rows len (n + 1) (blocks_of lines)) title
       (let names : names_board line.words
-      ≡ true = names_of line (names_board line.words) title right refl in
+      ≡ true = named line.words (names_board line.words) refl title right in
       names) b (below (n + 1) b.more b.rest_is)
   split_line n line lines blocks false title right is below = row_more line lines blocks title (below n blocks is)
 
@@ -269,9 +261,6 @@ front (line ∷ lines) = by_title (begins_block line) refl (front lines)
           rows = subst (All IsRow) (sym first) (All-cons IsRow line (up_to_title lines) is later.rows);
           none = later.none;
         }
-
-abbrev IsRight : NumberedLine → Type 0
-IsRight line = is_wrong_title line ≡ false
 
 all_right : (lines : List NumberedLine) → title_fault lines ≡ None → All IsRight lines
 all_right [] none = All-nil IsRight
@@ -469,7 +458,7 @@ module _ (rows len : ℕ) where
   no_log_line n line lines fault true title right is below =
       after_log n line lines fault (rows_of_lines rows len (up_to_title lines))
       (logs_from rows len (n + 1) (blocks_of lines)) title
-      (names_of rows len line (names_board line.words) title right refl) refl is (below (n + 1))
+      (named line.words (names_board line.words) refl title right) refl is (below (n + 1))
   no_log_line n line lines fault false title right is below = no_log_row n line lines fault title (below n is)
 
   no_log : (n : ℕ) (lines : List NumberedLine) (fault : BatchFault) → title_fault lines ≡ None
@@ -541,16 +530,6 @@ module _ (rows len : ℕ) where
       by_title : (title : Bool) → begins_block line ≡ title → start_fault (line ∷ lines) ≡ None
       by_title true is = ap (λ (b : Bool). cond b None (Some (Start line.number))) is
       by_title false is = let clash : line ∷ up_to_title lines ≡ [] = sym (up_to_row line lines is) ∙ none in absurd cc
-
-  right_before : (before rest : List NumberedLine) → All IsRight before → title_fault (before ++ rest) ≡ title_fault rest
-  right_before [] rest right = refl
-  right_before (line ∷ before) rest right =
-      ap (λ (b : Bool). cond b (Some (Title line.number)) (title_fault (before ++ rest)))
-      (All-head IsRight line before right)
-      ∙ right_before before rest (All-tail IsRight line before right)
-
-  none_wrong : (lines : List NumberedLine) → All IsRight lines → title_fault lines ≡ None
-  none_wrong lines right = ap title_fault (sym (append-nil lines)) ∙ right_before lines [] right
 
   -- if `rest` is empty or begins with a title, then the lines of some blocks followed by `rest` are empty or begin with a title
   titles_first : (before : List NumberedLine) (blocks : List Block) (rest : List NumberedLine)

@@ -18,7 +18,7 @@ use Rattle.batch_diag.specs.Verdicts.{EachPair}
 use Rattle.batch_diag.specs.OwnTexts.{BlockText, lines_of_block, own_text, IsTitle, IsNoTitle, IsCutTo, HoldsBlock, HoldsBlocks, BlocksByThemselves, moved_fault, FaultByItself, AreDiagnosesOf, DiagnosesByThemselves}
 use Rattle.batch_diag.specs.inner.Cutting.{rows_from}
 use Rattle.batch_diag.proofs.CutLemmas.{rows_at, with_line, worded, title_right, title_wrong, title_words, rows_append}
-use Rattle.batch_diag.proofs.RowLemmas.{IsRow, rows_right, rows_blocks, first_block, up_to_first, rows_before}
+use Rattle.batch_diag.proofs.RowLemmas.{IsRow, named, rows_right, rows_blocks, first_block, up_to_first, rows_before}
 use Rattle.batch_diag.proofs.FaultLemmas.{moved, said_at_place}
 use Rattle.batch_diag.proofs.LawLemmas.{title_words as named_words, no_fault}
 
@@ -195,14 +195,6 @@ titles_after : (n : ℕ) (lines : List (List ℕ)) (texts : List BlockText) → 
 titles_after n lines texts none =
     ap title_fault (rows_append n lines (lines_in texts))
     ∙ rows_right (rows_at n lines) (rows_at (n + length lines) (lines_in texts)) (no_titles n lines none)
-
-named : (words : List Word) (names : Bool) → names_board words ≡ names → is_title words ≡ true
-    → (is_title words && not (names_board words)) ≡ false → names_board words ≡ true
-named words true is title right = is
-named words false is title right =
-    let wrong : (is_title words && not (names_board words)) ≡ true = ap (λ (b : Bool). b && not (names_board words)) title ∙ ap not is in
-    let clash : true ≡ false = sym wrong ∙ right in
-    absurd cc
 
 titles_named : (m : ℕ) (texts : List BlockText) → All HasTitle texts → All HasRows texts
     → title_fault (rows_at m (lines_in texts)) ≡ None → All Names texts

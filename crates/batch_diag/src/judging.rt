@@ -4,7 +4,6 @@ ghost use Rattle.std.specs.Thread.{IsSync};
 ghost use Rattle.board_defs.specs.Passes.{passes_of};
 ghost use Rattle.scan_planner.specs.Plans.{IsPlanOf};
 ghost use Rattle.diagnoser.specs.Diagnosis.{IsFaultOnBoard};
-ghost use Rattle.fault_sim.specs.Kept.{KeepDrivers, KeepRows};
 ghost use Rattle.batch_diag.specs.Verdicts.{AreLogs, AreVerdicts};
 ghost use Rattle.batch_diag.specs.inner.Judging.{Judged};
 
@@ -13,7 +12,7 @@ use crate::block::Block;
 use board_defs::Board;
 use bt_base::{Gate, OpenGate};
 use diagnoser::{Entered, Verdict, diagnose_in};
-use fault_sim::{BoardTest, KeptPass};
+use fault_sim::BoardTest;
 use scan_planner::Plan;
 use side_by_side::{Piece, Workers, in_pieces};
 use std::alloc::{AllocError, Global};
@@ -67,53 +66,8 @@ pub fn diagnose_blocks<R: Threads + Sync, G: Gate>(
         (λ verdicts. All (λ verdict. All (IsFaultOnBoard test.now.board) verdict.faults)
         verdicts.items) }
 {
-    let kept = test.kept_passes(alloc, blocks.len())?;
-    judge_kept(rt, alloc, test, &kept, blocks, workers, gate)
-}
-
-// Like `diagnose_blocks`, but also takes kept passes, which make the diagnoses faster. A kept pass has rows of a pass and drivers that the
-// pass enables, computed in advance. `kept` must hold the first passes of this test, in order.
-fn judge_kept<R: Threads + Sync, G: Gate>(
-    rt: &R,
-    alloc: Global,
-    test: &BoardTest<'_>,
-    kept: &[KeptPass],
-    blocks: &[Block],
-    workers: Workers,
-    gate: &G,
-) -> Result<Vec<Verdict>, AllocError>
-    requires rows { KeepRows test.now.board test.now.plan kept.now }
-    requires drivers { KeepDrivers test.now.plan kept.now }
-    requires logs { AreLogs test.now.board test.now.plan blocks.now }
-    ensures verdicts { IfOk result
-        (λ verdicts. AreVerdicts test.now.board blocks.now verdicts.items) }
-    ensures count { IfOk result (λ verdicts. length verdicts.items ≡ length blocks.now) }
-    ensures named { IfOk result
-        (λ verdicts. All (λ verdict. All (IsFaultOnBoard test.now.board) verdict.faults)
-        verdicts.items) }
-{
-    let kept_test = test.with_kept(kept);
-    judge_all(rt, alloc, &kept_test, blocks, workers, gate)
-}
-
-// Like `judge_kept`, but takes a test that includes the kept passes.
-fn judge_all<R: Threads + Sync, G: Gate>(
-    rt: &R,
-    alloc: Global,
-    test: &BoardTest<'_>,
-    blocks: &[Block],
-    workers: Workers,
-    gate: &G,
-) -> Result<Vec<Verdict>, AllocError>
-    requires logs { AreLogs test.now.board test.now.plan blocks.now }
-    ensures verdicts { IfOk result
-        (λ verdicts. AreVerdicts test.now.board blocks.now verdicts.items) }
-    ensures count { IfOk result (λ verdicts. length verdicts.items ≡ length blocks.now) }
-    ensures named { IfOk result
-        (λ verdicts. All (λ verdict. All (IsFaultOnBoard test.now.board) verdict.faults)
-        verdicts.items) }
-{
-    let test = test.with_universe(alloc)?;
+    let kept = test.with_kept_passes(alloc, blocks.len())?;
+    let test = kept.test().with_universe(alloc)?;
     let batch = Batch {
         test: &test,
         blocks,

@@ -65,7 +65,7 @@ impl<'a> BoardTest<'a> {
 
     /// Returns this test with `kept` as its kept passes. Item `x` of `kept` must have rows and drivers of pass `x` of
     /// this test.
-    pub fn with_kept(&self, kept: &'a [KeptPass]) -> BoardTest<'a>
+    pub(crate) fn with_kept(&self, kept: &'a [KeptPass]) -> BoardTest<'a>
         requires rows { KeepRows self.now.board self.now.plan kept.now }
         requires drivers { KeepDrivers self.now.plan kept.now }
         ensures { result ≡ self.now }

@@ -121,7 +121,11 @@ fn kept_count(board: &Board, plan: &Plan, logs: usize) -> u32
 impl<'a> BoardTest<'a> {
     /// Returns the first passes of the test as kept passes, for use with `logs` logs. The kept passes take at most about 64 MiB. For
     /// fewer than two logs, returns no passes.
-    pub fn kept_passes(&self, alloc: Global, logs: usize) -> Result<Vec<KeptPass>, AllocError>
+    pub(crate) fn kept_passes(
+        &self,
+        alloc: Global,
+        logs: usize,
+    ) -> Result<Vec<KeptPass>, AllocError>
         ensures rows { IfOk result (λ kept. KeepRows self.now.board self.now.plan kept.items) }
         ensures drivers { IfOk result (λ kept. KeepDrivers self.now.plan kept.items) }
     {

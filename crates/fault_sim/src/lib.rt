@@ -11,6 +11,7 @@ mod fault_lists;
 mod feed;
 mod fits;
 mod kept;
+mod kept_test;
 pub mod law;
 mod marks;
 mod matching;
@@ -26,7 +27,7 @@ mod words;
 
 pub use board_test::{BoardTest, LoggedTest};
 pub use differing::ComparedLog;
-pub use kept::{ComparedRow, KeptPass};
+pub use kept_test::KeptTest;
 pub use matching::{is_pass, matches};
 pub use suspects::Suspects;
 pub use telling::TellingNet;
