@@ -9,17 +9,11 @@ use board_defs::{Items, Name};
 use board_files::{ChainLine, ChainStatement, NetLine, PinWord};
 use std::alloc::{AllocError, Global};
 
-fn copy(alloc: Global, name: &Name) -> Result<Name, AllocError>
-    ensures { IfOk result (λ copy. copy ≡ name.now) }
-{
-    Name::of(alloc, name.bytes())
-}
-
 fn copy_package(alloc: Global, chosen: &Option<Name>) -> Result<Option<Name>, AllocError>
     ensures { IfOk result (λ copy. copy ≡ chosen.now) }
 {
     match chosen {
-        Some(name) => Ok(Some(copy(alloc, name)?)),
+        Some(name) => Ok(Some(name.copy(alloc)?)),
         None => Ok(None),
     }
 }
@@ -28,8 +22,8 @@ fn copy_pin(alloc: Global, pin: &PinWord) -> Result<PinWord, AllocError>
     ensures { IfOk result (λ copy. copy ≡ pin.now) }
 {
     Ok(PinWord {
-        part: copy(alloc, &pin.part)?,
-        pin: copy(alloc, &pin.pin)?,
+        part: pin.part.copy(alloc)?,
+        pin: pin.pin.copy(alloc)?,
     })
 }
 
@@ -120,16 +114,16 @@ fn joined_statement(
             entity,
             package,
         } => Ok(ChainStatement::Device {
-            part: copy(alloc, part)?,
-            entity: copy(alloc, entity)?,
+            part: part.copy(alloc)?,
+            entity: entity.copy(alloc)?,
             package: copy_package(alloc, package)?,
         }),
         ChainStatement::Bypass { part, length } => Ok(ChainStatement::Bypass {
-            part: copy(alloc, part)?,
+            part: part.copy(alloc)?,
             length: *length,
         }),
         ChainStatement::Inert { part } => Ok(ChainStatement::Inert {
-            part: copy(alloc, part)?,
+            part: part.copy(alloc)?,
         }),
         ChainStatement::Supply { net } => Ok(ChainStatement::Supply {
             net: rename(alloc, names, least, net)?,
@@ -139,7 +133,7 @@ fn joined_statement(
             value: *value,
         }),
         ChainStatement::Link { part, .. } => Ok(ChainStatement::Inert {
-            part: copy(alloc, part)?,
+            part: part.copy(alloc)?,
         }),
     }
 }
