@@ -1,5 +1,5 @@
 -- Lemmas about a loop that goes through a list and keeps the items that equal no earlier item.
-use Rattle.std.proofs.Common.{◌≡◌, ℕ, suc, ◌+◌, ◌<◌, ◌≤◌, Bool, true, false, cond, ◌||◌, List, [], ◌∷◌, ◌++◌, length, take, drop, get_or, Option, Some, None, refl, sym, ap, ◌∙◌, append_assoc, arith}
+use Rattle.std.proofs.Common.{◌≡◌, ℕ, suc, ◌+◌, ◌<◌, ◌≤◌, Bool, true, false, cond, not, ◌||◌, List, [], ◌∷◌, ◌++◌, length, take, drop, get_or, Option, Some, None, refl, sym, ap, ◌∙◌, append_assoc, append-nil, length-append, arith}
 use Rattle.std.proofs.lemmas.List.{drop_more, take_more}
 use Rattle.std.proofs.lemmas.List.Folds.{list_any-append}
 use Rattle.std.specs.List.{list_any}
@@ -83,6 +83,15 @@ once_step {I} eq items i x done kept all true within read found taken same =
     once_old eq items i x done all within read (sym found) same
     ∙ ap (λ (k : List I). k ++ once_from eq (take (i + 1) items) (drop (i + 1) items))
     (sym taken)
+
+-- `done` with `x` appended unless `was` is true
+pub unless : {I : Type 0} (was : Bool) (done : List I) (x : I) → done ++ cond (not was) (x ∷ []) [] ≡ cond was done (done ++ x ∷ [])
+unless true done x = append-nil done
+unless false done x = refl
+
+pub one_more : {I : Type 0} (was : Bool) (done : List I) (x : I) → length (cond was done (done ++ x ∷ [])) ≤ length done + 1
+one_more true done x = omega arith
+one_more false done x = omega (arith, length-append done (x ∷ []))
 
 few : {I : Type 0} (was : Bool) (kept : List I) (i : I) (n : ℕ) → length kept ≤ n → length (cond was kept (i ∷ kept)) ≤ suc n
 few true kept i n within = omega arith
