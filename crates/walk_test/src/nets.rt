@@ -1,6 +1,6 @@
 // Makes the parts of a walk, which is the walking test of one board: its setting, its nets, their cells, and the rows
 // that all scans share.
-ghost use Rattle.std.specs.Prelude.{◌≡◌, ◌<◌, ◌^◌, ◌++◌, ◌∷◌, ◌==◌, [], if◌then◌else◌, is_some, map, length, Some, None, slice_get, IfOk, OnOk};
+ghost use Rattle.std.specs.Prelude.{◌≡◌, ◌<◌, ◌^◌, is_some, map, length, Some, None, slice_get, IfOk};
 ghost use Rattle.std.specs.Option.{option_to_list};
 ghost use Rattle.board_defs.specs.Passes.{passes_of};
 ghost use Rattle.board_defs.specs.Pins.{data_bits};
@@ -18,17 +18,6 @@ use net_pins::{BoardPins, NetDriver, NetPins, ReaderCell};
 use scan_planner::BoardPlan;
 use std::alloc::{AllocError, Global};
 
-fn push_beside(positions: &mut Vec<u32>, reader: ReaderCell, place: u32) -> Result<(), AllocError>
-    ensures { OnOk result
-        (positions.new.items
-        ≡ positions.old.items ++ (if reader.place == place then [] else reader.position ∷ [])) }
-{
-    if reader.place != place {
-        positions.push(reader.position)?;
-    }
-    Ok(())
-}
-
 // Returns the positions of the cells in `readers` that read a pin other than the pin at `place`, an index in
 // the net's list of pins.
 fn positions_beside(
@@ -40,7 +29,7 @@ fn positions_beside(
 {
     let mut positions = Vec::new(alloc);
     for reader in readers {
-        push_beside(&mut positions, *reader, place)?;
+        push_if(&mut positions, reader.position, reader.place != place)?;
     }
     Ok(Items::of(positions))
 }

@@ -1,7 +1,7 @@
 // The walk setting: the first pass of a board's test, but without the controls of switching drivers. A
 // switching driver is a driver whose own cell is also its control cell, on an unguarded net that is pulled to
 // the driver's disable value. A net is guarded if, for example, it carries a supply.
-ghost use Rattle.std.specs.Prelude.{◌≡◌, ◌<◌, ◌^◌, ◌++◌, ◌∷◌, [], if◌then◌else◌, filter, not, length, slice_get, Some, IfOk, OnOk};
+ghost use Rattle.std.specs.Prelude.{◌≡◌, ◌<◌, ◌^◌, ◌∷◌, [], if◌then◌else◌, filter, not, length, slice_get, Some, IfOk, OnOk};
 ghost use Rattle.std.specs.Option.{option_to_list};
 ghost use Rattle.board_defs.specs.Passes.{passes_of};
 ghost use Rattle.board_defs.specs.Pins.{guarded_at};
@@ -11,6 +11,7 @@ ghost use Rattle.walk_test.specs.WalkTest.{without_switching, walk_setting};
 ghost use Rattle.walk_test.specs.inner.Setting.{own_switch, entry_switch, pin_switch, with_some, with_pins, all_switching};
 
 use board_defs::{Cell, Control, Ctl, Net, NetPin, Setting, law};
+use lists::push_if;
 use net_pins::BoardPins;
 use scan_planner::law::useful_planned;
 use std::alloc::{AllocError, Global};
@@ -107,23 +108,13 @@ fn switching_of(alloc: Global, board: &BoardPins<'_>) -> Result<Setting, AllocEr
     Ok(setting)
 }
 
-fn push_unless(controls: &mut Vec<Ctl>, c: Ctl, is_left_out: bool) -> Result<(), AllocError>
-    ensures { OnOk result
-        (controls.new.items ≡ controls.old.items ++ (if is_left_out then [] else c ∷ [])) }
-{
-    if !is_left_out {
-        controls.push(c)?;
-    }
-    Ok(())
-}
-
 // Returns those of `controls` that `set` does not hold, in the same order.
 fn others(alloc: Global, controls: &[Ctl], set: &Setting) -> Result<Vec<Ctl>, AllocError>
     ensures { IfOk result (λ left. left.items ≡ filter (λ c. not (holds set.now c)) controls.now) }
 {
     let mut left = Vec::new(alloc);
     for c in controls {
-        push_unless(&mut left, *c, set.has(*c))?;
+        push_if(&mut left, *c, !set.has(*c))?;
     }
     Ok(left)
 }
