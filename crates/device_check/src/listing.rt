@@ -3,7 +3,7 @@ ghost use Rattle.std.specs.Prelude.{◌≡◌, ◌==◌, ◌<◌, ◌≤◌, ◌
 ghost use Rattle.std.specs.List.{flat_map, list_any, prefix_len};
 ghost use Rattle.board_defs.specs.Limits.{most_bits};
 ghost use Rattle.bt_base.specs.Puts.{Puts};
-ghost use Rattle.line_printer.specs.Prints.{Prints, line_of, whole, bit_word};
+ghost use Rattle.line_printer.specs.Prints.{Prints, line_of, whole};
 ghost use Rattle.board_defs.specs.DeviceRules.{IsDevice};
 ghost use Rattle.device_check.specs.DeviceText.{mode_word, role_word, symbol_word, code_text, instructions_text, pattern_text, instruction_line, pin_text, pins_text, port_line, name_of_port, port_lines, index_text, place_text, control_text, cell_line, entries_of_cell, cell_lines, device_text};
 ghost use Rattle.device_check.specs.inner.ListingForms.{Rises, Climbs, entries_in};
@@ -13,7 +13,7 @@ use board_defs::{Cell, Control, Device, Edition, Mode, Name, PortBit, RawDevice,
 use bt_base::{PutFault, Sink};
 use bt_bits::Line;
 use itoa::Buffer;
-use line_printer::{begin_line, end_line, print, print_all, put_line};
+use line_printer::{begin_line, bit_word, end_line, print, print_all, put_line};
 
 /// The number of cells whose entries are collected in one pass over the list of entries.
 const BLOCK: usize = 1024;
@@ -54,12 +54,6 @@ fn symbol_word(symbol: Symbol) -> &'static [u8]
         Symbol::One => b"1",
         Symbol::Any => b"X",
     }
-}
-
-fn bit_word(bit: bool) -> &'static [u8]
-    ensures { result.now ≡ bit_word bit }
-{
-    if bit { b"1" } else { b"0" }
 }
 
 /// Prints a code in reverse, so that the symbol nearest TDO, the first of the code, is the last

@@ -1,19 +1,13 @@
 // Writes the lines of a diagnosis.
-ghost use Rattle.std.specs.Prelude.{◌≡◌, [], ◌∷◌, Some, codes, decimal};
-ghost use Rattle.line_printer.specs.Prints.{Prints, line_of, bit_word};
+ghost use Rattle.std.specs.Prelude.{[], ◌∷◌, Some, codes, decimal};
+ghost use Rattle.line_printer.specs.Prints.{Prints, line_of};
 ghost use Rattle.diagnoser.specs.DiagText.{stuck_line, open_line, short_fault_line, short_line, fail_line};
 
 use board_defs::{Kind, NetPin};
 use bt_base::{PutFault, Sink};
 use bt_bits::Line;
 use itoa::Buffer;
-use line_printer::put_line;
-
-fn bit_word(value: bool) -> &'static [u8]
-    ensures { result.now ≡ bit_word value }
-{
-    if value { b"1" } else { b"0" }
-}
+use line_printer::{bit_word, put_line};
 
 /// Writes the line `PASS`.
 pub fn put_pass<K: Sink>(line: &mut Line, out: &mut K) -> Result<(), PutFault>

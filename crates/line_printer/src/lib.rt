@@ -4,4 +4,4 @@
 
 mod printing;
 
-pub use printing::{begin_line, end_line, print, print_all, put_line};
+pub use printing::{begin_line, bit_word, end_line, print, print_all, put_line};

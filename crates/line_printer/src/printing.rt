@@ -1,7 +1,7 @@
 // Prints text of any length to a sink through a `Line`, which is a buffer of `MAX_LINE` bytes.
 ghost use Rattle.std.specs.Prelude.{◌≡◌, ◌<◌, ℕ, List, [], ◌∷◌, ◌++◌, length, map, OnOk};
 ghost use Rattle.bt_base.specs.Puts.{Puts};
-ghost use Rattle.line_printer.specs.Prints.{Prints, line_of, whole};
+ghost use Rattle.line_printer.specs.Prints.{Prints, bit_word, line_of, whole};
 
 use bt_base::{PutFault, Sink};
 use bt_bits::{Line, MAX_LINE};
@@ -87,4 +87,11 @@ pub fn put_line<K: Sink>(pieces: &[&[u8]], line: &mut Line, out: &mut K) -> Resu
 {
     begin_line(pieces, line, out)?;
     end_line(line, out)
+}
+
+/// Returns the digit of a bit.
+pub fn bit_word(bit: bool) -> &'static [u8]
+    ensures { result.now ≡ bit_word bit }
+{
+    if bit { b"1" } else { b"0" }
 }
