@@ -1,7 +1,7 @@
 // A board: its chain and its nets, with functions that return facts about their pins.
 ghost use Rattle.std.specs.Prelude.{◌≡◌, ◌<◌, length};
 ghost use Rattle.board_defs.specs.BoardRules.{IsBoard};
-ghost use Rattle.board_defs.specs.Pins.{instruction_bits, data_bits, drive_at, switches_at, receives_at, guarded_at, IsOnBoard};
+ghost use Rattle.board_defs.specs.Pins.{instruction_bits, data_bits, net_name, drive_at, switches_at, receives_at, guarded_at, IsOnBoard};
 ghost use Rattle.board_defs.specs.Settings.{same_ctl};
 
 use crate::device::Device;
@@ -145,6 +145,16 @@ impl Board {
         ensures { result ≡ data_bits self.now }
     {
         data_bits(self.raw().chain.as_slice())
+    }
+
+    /// Returns the name of the net, or an empty name if the board has no net with this number.
+    pub fn net_name(&self, net: u32) -> &[u8]
+        ensures { result.now ≡ net_name self.now net }
+    {
+        match self.raw().nets.as_slice().get(net as usize) {
+            None => &[],
+            Some(net) => net.name.bytes(),
+        }
     }
 
     /// Returns whether the net is guarded: it carries a supply, or has a pin of a test access port, a pin that

@@ -1,9 +1,9 @@
 // Writes the text of a diagnosis.
-ghost use Rattle.std.specs.Prelude.{◌≡◌, ◌++◌, ◌<◌, [], length, All, Some};
+ghost use Rattle.std.specs.Prelude.{◌≡◌, ◌++◌, [], length, All, Some};
 ghost use Rattle.std.specs.List.{flat_map};
 ghost use Rattle.bt_base.specs.Puts.{Puts};
 ghost use Rattle.line_printer.specs.Prints.{Prints};
-ghost use Rattle.board_defs.specs.Pins.{IsOnBoard, pin_at, net_name};
+ghost use Rattle.board_defs.specs.Pins.{IsOnBoard, pin_at};
 ghost use Rattle.diagnoser.specs.Diagnosis.{IsFaultOnBoard};
 ghost use Rattle.diagnoser.specs.DiagText.{fault_line, fail_line, diag_text};
 
@@ -11,14 +11,6 @@ use crate::lines::{put_fail, put_open, put_pass, put_short, put_stuck};
 use board_defs::{Board, NetPin, PinRef, Single};
 use bt_base::{PutFault, Sink};
 use bt_bits::Line;
-
-// Returns the name of net `n`. The board must have the net.
-fn net_name(board: &Board, n: u32) -> &[u8]
-    requires { n < length board.now.nets }
-    ensures { result.now ≡ net_name board.now n }
-{
-    board.raw().nets.as_slice()[n as usize].name.bytes()
-}
 
 // Returns the pin that `pin` refers to. The board must have the pin.
 fn pin_at(board: &Board, pin: PinRef) -> &NetPin
@@ -39,10 +31,10 @@ fn put_fault<K: Sink>(
     ensures { Prints (K.shown out.old) (K.shown out.new) [] [] (fault_line board.now fault) result }
 {
     match fault {
-        Single::StuckNet { net, value } => put_stuck(net_name(board, net), value, line, out),
+        Single::StuckNet { net, value } => put_stuck(board.net_name(net), value, line, out),
         Single::OpenPin { pin, value } => put_open(pin_at(board, pin), value, line, out),
         Single::Short { a, b, kind } => {
-            put_short(kind, net_name(board, a), net_name(board, b), line, out)
+            put_short(kind, board.net_name(a), board.net_name(b), line, out)
         }
     }
 }

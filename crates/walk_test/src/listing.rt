@@ -1,7 +1,6 @@
 // Writes the text of a set of groups. Each group consists of walk nets that are shorted together. The walk
 // nets are the nets that the walking test observes.
-ghost use Rattle.board_defs.specs.Pins.{net_name};
-ghost use Rattle.std.specs.Prelude.{◌≡◌, ◌++◌, [], length, option_map};
+ghost use Rattle.std.specs.Prelude.{◌++◌, [], length, option_map};
 ghost use Rattle.std.specs.List.{flat_map};
 ghost use Rattle.bt_base.specs.Puts.{Puts};
 ghost use Rattle.line_printer.specs.Prints.{Prints};
@@ -13,16 +12,6 @@ use board_defs::Board;
 use bt_base::{PutFault, Sink};
 use bt_bits::Line;
 
-// Returns the name of net `n`, or an empty name if the board has no net `n`.
-fn net_name(board: &Board, n: u32) -> &[u8]
-    ensures { result.now ≡ net_name board.now n }
-{
-    match board.raw().nets.as_slice().get(n as usize) {
-        None => &[],
-        Some(net) => net.name.bytes(),
-    }
-}
-
 fn put_numbered<K: Sink>(
     board: &Board,
     n: u32,
@@ -31,7 +20,7 @@ fn put_numbered<K: Sink>(
 ) -> Result<(), PutFault>
     ensures { Prints (K.shown out.old) (K.shown out.new) [] [] (net_line board.now n) result }
 {
-    put_net(net_name(board, n), line, out)
+    put_net(board.net_name(n), line, out)
 }
 
 fn put_nets<K: Sink>(
