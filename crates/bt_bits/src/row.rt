@@ -126,6 +126,14 @@ impl Row {
         self.len
     }
 
+    /// Returns the number of hexadecimal digits in the row's field.
+    #[inline]
+    pub fn digit_count(&self) -> u32
+        ensures { result ≡ digit_count (length self.now.bits) }
+    {
+        digit_count(self.len as usize) as u32
+    }
+
     /// Returns bit `i`, which must be a bit of the row.
     #[inline]
     pub fn get(&self, i: u32) -> bool

@@ -32,15 +32,6 @@ fn begin(ir: bool, tdi: &Row, line: &mut Line)
     line.push_number(u64::from(tdi.len()));
 }
 
-// Returns the number of hexadecimal digits in the field of a row. The row must have at most
-// `most_bits` bits.
-fn digit_count(row: &Row) -> u32
-    requires { length row.now.bits ≤ most_bits }
-    ensures { result ≡ digit_count (length row.now.bits) }
-{
-    row.len().div_ceil(4)
-}
-
 // Appends a label and the digits of a row to the line. The row must have at most `most_bits` bits,
 // and the line must have room for the text.
 fn push_field(label: &[u8], row: &Row, line: &mut Line)
@@ -51,7 +42,7 @@ fn push_field(label: &[u8], row: &Row, line: &mut Line)
         ≡ length line.old + length label.now + digit_count (length row.now.bits) }
 {
     line.push(label);
-    row.put_hex(0, digit_count(row), line);
+    row.put_hex(0, row.digit_count(), line);
 }
 
 // Appends the fields of a scan and a line feed to the line with the command. The rows must have the
@@ -117,7 +108,7 @@ fn has_room(compare: bool, tdi: &Row, line: &Line) -> bool
     ensures { IsTrue result
         ↔ (length line.now + fields_length compare (digit_count (length tdi.now.bits)) ≤ 80) }
 {
-    line.len() + fields_length(compare, digit_count(tdi)) <= MAX_SHORT
+    line.len() + fields_length(compare, tdi.digit_count()) <= MAX_SHORT
 }
 
 // Writes a field in lines of its own: the label, then the digits, at most 64 in a line, and then
@@ -136,7 +127,7 @@ fn put_field<K: Sink>(
     ensures { Puts (K.shown out.old) (K.shown out.new)
         (label.now ++ (broken 64 (hex_text row.now.bits) ++ end.now)) result }
 {
-    let count = digit_count(row);
+    let count = row.digit_count();
     let mut from = 0;
     line.clear();
     line.push(label);
