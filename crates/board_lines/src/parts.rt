@@ -1,6 +1,5 @@
 // The parts of a chain.
-ghost use Rattle.std.specs.Prelude.{◌≡◌, ◌≤◌, ◌++◌, vec_len, length, map, All, IfOk, IfSome, OnOk, option_map};
-ghost use Rattle.std.specs.Option.{option_to_list};
+ghost use Rattle.std.specs.Prelude.{◌≡◌, ◌≤◌, vec_len, length, map, All, IfOk, IfSome, OnOk, option_map};
 ghost use Rattle.std.specs.Vec.Iter.{into_iter_items};
 ghost use Rattle.board_defs.specs.Limits.{IsInstructionLength};
 ghost use Rattle.board_files.specs.ChainLines.{HasBypassLength};
@@ -10,6 +9,7 @@ ghost use Rattle.board_lines.specs.ChainParts.{part_of_line, devices_after, chai
 
 use board_defs::{Device, Name, Part, PartKind};
 use board_files::{ChainLine, ChainStatement};
+use lists::push_some;
 use std::alloc::{AllocError, Global};
 use std::vec::IntoIter;
 
@@ -60,15 +60,6 @@ fn part_of_line(
         ChainStatement::Bypass { part, length } => Ok(Some(bypass(alloc, part, *length)?)),
         _ => Ok(None),
     }
-}
-
-fn push_some(parts: &mut Vec<Part>, part: Option<Part>) -> Result<(), AllocError>
-    ensures { OnOk result (parts.new.items ≡ parts.old.items ++ option_to_list part) }
-{
-    if let Some(part) = part {
-        parts.push(part)?;
-    }
-    Ok(())
 }
 
 /// Returns the parts of the DEVICE and BYPASS lines, in the order of the lines. Each DEVICE line

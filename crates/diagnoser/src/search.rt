@@ -1,5 +1,5 @@
 // The search for the single faults that explain a log. It is cut into pieces, which run side by side.
-ghost use Rattle.std.specs.Prelude.{◌≡◌, ◌↔◌, ◌+◌, ◌<◌, ◌≤◌, ◌++◌, true, length, IsTrue, IfOk, IfSome, OnOk};
+ghost use Rattle.std.specs.Prelude.{◌≡◌, ◌↔◌, ◌+◌, ◌<◌, ◌≤◌, true, length, IsTrue, IfOk, IfSome};
 ghost use Rattle.std.specs.Option.{option_to_list};
 ghost use Rattle.board_defs.specs.Faults.{IsSingle};
 ghost use Rattle.tap_defs.specs.board.Explaining.{Explains};
@@ -14,6 +14,7 @@ use board_defs::Single;
 use board_defs::law::passes_kept;
 use bt_base::Gate;
 use fault_sim::{ComparedLog, Suspects, TellingNet, TestUniverse, Universe};
+use lists::push_some;
 use response_log::Log;
 use side_by_side::{Piece, Workers, in_pieces};
 use std::alloc::{AllocError, Global};
@@ -201,13 +202,4 @@ impl<'a> Search<'a> {
         { self.search_piece(alloc, piece, gate) };
         in_pieces(rt, alloc, count, workers.number(), &find)
     }
-}
-
-fn push_some(faults: &mut Vec<Single>, fault: Option<Single>) -> Result<(), AllocError>
-    ensures { OnOk result (faults.new.items ≡ faults.old.items ++ option_to_list fault) }
-{
-    if let Some(fault) = fault {
-        faults.push(fault)?;
-    }
-    Ok(())
 }

@@ -1,6 +1,6 @@
 //! Helpers for lists: a vector whose value in contracts is the list of its items (`Items`), flags that are
-//! read and set by their index, tables in which each row is a list, and a push that appends an item only if a
-//! condition is true.
+//! read and set by their index, tables in which each row is a list, and pushes that append an item only if a
+//! condition is true or if there is an item.
 #![tactic(auto)]
 
 mod flags;
@@ -10,5 +10,5 @@ mod rows;
 
 pub use flags::{is_set, mark};
 pub use items::Items;
-pub use push::push_if;
+pub use push::{push_if, push_some};
 pub use rows::{blank, note, note_where};

@@ -1,5 +1,6 @@
 // Appending an item to a vector under a condition.
 ghost use Rattle.std.specs.Prelude.{◌≡◌, ◌++◌, ◌∷◌, [], if◌then◌else◌, OnOk};
+ghost use Rattle.std.specs.Option.{option_to_list};
 
 use std::alloc::AllocError;
 
@@ -10,6 +11,16 @@ pub fn push_if<T: Drop>(items: &mut Vec<T>, item: T, passes: bool) -> Result<(),
         (items.new.items ≡ items.old.items ++ (if passes then item ∷ [] else [])) }
 {
     if passes {
+        items.push(item)?;
+    }
+    Ok(())
+}
+
+/// Appends the item if there is one. If memory runs out, the content of the vector is unspecified.
+pub fn push_some<T: Drop>(items: &mut Vec<T>, item: Option<T>) -> Result<(), AllocError>
+    ensures { OnOk result (items.new.items ≡ items.old.items ++ option_to_list item) }
+{
+    if let Some(item) = item {
         items.push(item)?;
     }
     Ok(())

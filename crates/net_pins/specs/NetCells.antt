@@ -3,6 +3,7 @@
 -- guarded if it carries a supply, or has a pin of a test access port, a pin that compliance patterns name, or
 -- a dark pin.
 use Rattle.std.specs.Prelude.{ℕ, suc, ◌+◌, cond, List, [], ◌∷◌, ◌++◌, map, filter, Option, Some, None, option_map}
+use Rattle.std.specs.Option.{option_to_list}
 use Rattle.board_defs.specs.declared.device.Cell.{Cell}
 use Rattle.board_defs.specs.declared.device.RawDevice.{RawDevice}
 use Rattle.board_defs.specs.declared.board.PinAt.{PinAt}
@@ -19,11 +20,6 @@ use Rattle.net_pins.specs.Positions.{first_position}
 abbrev pub gathered : {X Y : Type 0} → (ℕ → X → List Y) → ℕ → List X → List Y
 gathered f place [] = []
 gathered f place (x ∷ xs) = f place x ++ gathered f (suc place) xs
-
--- the list with this item as its only item, or the empty list if there is no item
-abbrev pub optional : {X : Type 0} → Option X → List X
-optional None = []
-optional (Some x) = x ∷ []
 
 -- the driver on the pin at `place` whose driving entry is this entry of part `part`
 abbrev pub net_driver : RawBoard → ℕ → ℕ → Cell → NetDriver
@@ -44,7 +40,7 @@ driver_of board place (Some at) = option_map (net_driver board at.part place) (e
 
 -- the drivers of a net with these pins, in pin order, whether the net is guarded or not
 abbrev pub drivers_of_pins : RawBoard → List NetPin → List NetDriver
-drivers_of_pins board pins = gathered (λ place pin. optional (driver_of board place pin.at)) 0 pins
+drivers_of_pins board pins = gathered (λ place pin. option_to_list (driver_of board place pin.at)) 0 pins
 
 -- The drivers of a net, in pin order, or none if the net is guarded. Every setting enables the always-on drivers of a guarded net, but no
 -- setting observes the net by them.

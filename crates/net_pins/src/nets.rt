@@ -7,12 +7,13 @@ ghost use Rattle.board_defs.specs.Limits.{most_pins};
 ghost use Rattle.board_defs.specs.DeviceRules.{is_receiving};
 ghost use Rattle.board_defs.specs.Pins.{device_at, bit_at, cell_count, guarded};
 ghost use Rattle.board_defs.specs.Settings.{holds};
-ghost use Rattle.net_pins.specs.NetCells.{optional, net_driver, driver_of, drivers_of_pins, drivers_of, reader_cell, readers_at, readers_of};
+ghost use Rattle.net_pins.specs.NetCells.{net_driver, driver_of, drivers_of_pins, drivers_of, reader_cell, readers_at, readers_of};
 ghost use Rattle.net_pins.specs.Enabled.{is_driver_on, is_read_beside};
 ghost use Rattle.net_pins.specs.inner.Receiving.{receives_by};
 
 use crate::board_pins::BoardPins;
 use board_defs::{Cell, Ctl, Items, Net, NetPin, PinAt, RawBoard, Setting};
+use lists::push_some;
 use std::alloc::{AllocError, Global};
 
 /// A driver of a net: the place of its pin in the net, its control if it has one, the cell of its driving entry
@@ -86,15 +87,6 @@ fn driver_of(board: &BoardPins<'_>, place: u32, at: Option<PinAt>) -> Option<Net
             Some(cell) => Some(net_driver(board, at.part, place, cell)),
         },
     }
-}
-
-fn push_some(drivers: &mut Vec<NetDriver>, driver: Option<NetDriver>) -> Result<(), AllocError>
-    ensures { OnOk result (drivers.new.items ≡ drivers.old.items ++ optional driver) }
-{
-    if let Some(driver) = driver {
-        drivers.push(driver)?;
-    }
-    Ok(())
 }
 
 // Returns the drivers of a net with these pins, in pin order. There must be at most 65,535 pins.

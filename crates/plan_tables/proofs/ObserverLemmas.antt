@@ -1,6 +1,7 @@
 -- An observer is a driver of a net on which another pin has a compared cell. Proofs that a pass observes nets by the observers that it
 -- enables, and by no other drivers.
 use Rattle.std.proofs.Common.{◌≡◌, ℕ, ◌+◌, ◌<◌, Bool, true, false, cond, List, [], length, map, get_or, Option, Some, None, refl, sym, ap, ◌∙◌, subst, arith, ◌⊎◌, inl, inr}
+use Rattle.std.specs.Option.{option_to_list}
 use Rattle.std.specs.Prelude.{slice_get, option_map, option_and_then, filter, find, All}
 use Rattle.std.proofs.lemmas.Option.{slice_get-get_or, slice_get_within}
 use Rattle.std.proofs.lemmas.Bool.{cases_eq, both_ways}
@@ -24,7 +25,7 @@ use Rattle.plan_tables.specs.declared.observers.Observer.{Observer}
 use Rattle.plan_tables.specs.declared.tables.HeldCell.{HeldCell}
 use Rattle.plan_tables.specs.declared.tables.DriverCell.{DriverCell}
 use Rattle.net_pins.specs.declared.nets.ReaderCell.{ReaderCell}
-use Rattle.net_pins.specs.NetCells.{optional, net_driver, driver_of, drivers_of_pins, drivers_of, readers_of}
+use Rattle.net_pins.specs.NetCells.{net_driver, driver_of, drivers_of_pins, drivers_of, readers_of}
 use Rattle.net_pins.specs.Enabled.{is_driver_on, is_read_beside, observing_of}
 use Rattle.plan_tables.specs.Tables.{first_position, IsDriverCell, control_position, held_cell}
 use Rattle.plan_tables.specs.inner.Laid.{bits_of_parts}
@@ -51,7 +52,7 @@ driver_on board net d h = by_guard (guarded board net) h
   where
     by_entry : (n : ℕ) (pin : NetPin) (at : PinAt) → slice_get net.pins n ≡ Some pin
         → pin.at ≡ Some at → (o : Option Cell) → entry_at board at ≡ o →
-        Has (optional (option_map (net_driver board at.part (0 + n)) o)) d → DriverOn board net d
+        Has (option_to_list (option_map (net_driver board at.part (0 + n)) o)) d → DriverOn board net d
     by_entry n pin at e a None c h = absurd h
     by_entry n pin at e a (Some entry) c (inr none) = absurd none
     by_entry n pin at e a (Some entry) c (inl same) =
@@ -68,14 +69,14 @@ driver_on board net d h = by_guard (guarded board net) h
         }
 
     by_at : (n : ℕ) (pin : NetPin) → slice_get net.pins n ≡ Some pin → (o : Option PinAt)
-        → pin.at ≡ o → Has (optional (driver_of board (0 + n) o)) d → DriverOn board net d
+        → pin.at ≡ o → Has (option_to_list (driver_of board (0 + n) o)) d → DriverOn board net d
     by_at n pin e None a h = absurd h
     by_at n pin e (Some at) a h = by_entry n pin at e a (entry_at board at) refl h
 
     by_guard : (t : Bool) → Has (cond t [] (drivers_of_pins board net.pins)) d → DriverOn board net d
     by_guard true h = absurd h
     by_guard false h =
-        let k = has_gathered (λ place (pin : NetPin). optional (driver_of board place pin.at)) 0 net.pins d h in
+        let k = has_gathered (λ place (pin : NetPin). option_to_list (driver_of board place pin.at)) 0 net.pins d h in
         by_at (k.0) (k.1) k.2 (k.1.at) refl k.3
 
 pub control_there : (board : RawBoard) → IsBoard board → (net : Net) (d : NetDriver)

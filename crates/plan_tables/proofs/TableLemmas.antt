@@ -1,5 +1,6 @@
 -- Proofs that the tables that the code makes have the contents that the definitions require.
 use Rattle.std.proofs.Common.{◌≡◌, ℕ, zero, suc, ◌+◌, ◌==◌, Bool, true, false, not, cond, ◌&&◌, ◌||◌, List, [], ◌∷◌, ◌++◌, map, Option, Some, None, refl, sym, ap, ◌∙◌, subst, arith, ◌⊎◌, inl, inr}
+use Rattle.std.specs.Option.{option_to_list}
 use Rattle.std.specs.Prelude.{slice_get, option_and_then, option_map, filter}
 use Rattle.std.specs.List.{list_any}
 use Rattle.std.proofs.lemmas.Bool.{and_parts}
@@ -21,7 +22,7 @@ use Rattle.board_defs.proofs.Places.{any_place}
 use Rattle.tap_defs.specs.board.TestRows.{first_enabled, reads_beside, observing_driver, observing_driver_by}
 use Rattle.net_pins.specs.declared.nets.NetDriver.{NetDriver}
 use Rattle.net_pins.specs.declared.nets.ReaderCell.{ReaderCell}
-use Rattle.net_pins.specs.NetCells.{gathered, optional, net_driver, driver_of, drivers_of_pins, drivers_of, reader_cell, readers_in, readers_at, readers_of}
+use Rattle.net_pins.specs.NetCells.{gathered, net_driver, driver_of, drivers_of_pins, drivers_of, reader_cell, readers_in, readers_at, readers_of}
 use Rattle.net_pins.specs.Enabled.{is_driver_on, enabled_in, observing_of}
 use Rattle.plan_tables.specs.Tables.{first_position, IsReaderCell}
 
@@ -131,7 +132,7 @@ on_by s part None = refl
 on_by s part (Some control) = refl
 
 abbrev pub pin_drivers : RawBoard → ℕ → List NetPin → List NetDriver
-pin_drivers board k pins = gathered (λ place pin. optional (driver_of board place pin.at)) k pins
+pin_drivers board k pins = gathered (λ place pin. option_to_list (driver_of board place pin.at)) k pins
 
 pub first_on : (board : RawBoard) (s : Enabling) (k : ℕ) (pins : List NetPin)
     → FirstOn board s k pins (enabled_in s (pin_drivers board k pins))
@@ -178,7 +179,7 @@ first_on board s k (pin ∷ pins) = by_at pin.at refl (enabled_in s (pin_drivers
         → FirstOn board s (suc k) pins o →
         FirstOn board s k (pin ∷ pins)
         (enabled_in s
-        (optional (option_map (net_driver board at.part k) c)
+        (option_to_list (option_map (net_driver board at.part k) c)
         ++ pin_drivers board (suc k) pins))
     by_entry at a None e o w r =
         subst (λ (x : Option NetDriver). FirstOn board s k (pin ∷ pins) x) (sym w)
@@ -195,7 +196,7 @@ first_on board s k (pin ∷ pins) = by_at pin.at refl (enabled_in s (pin_drivers
 
     by_at : (a : Option PinAt) → pin.at ≡ a → (o : Option NetDriver)
         → enabled_in s (pin_drivers board (suc k) pins) ≡ o → FirstOn board s (suc k) pins o →
-        FirstOn board s k (pin ∷ pins) (enabled_in s (optional (driver_of board k a) ++ pin_drivers board (suc k) pins))
+        FirstOn board s k (pin ∷ pins) (enabled_in s (option_to_list (driver_of board k a) ++ pin_drivers board (suc k) pins))
     by_at None a o w r =
         subst (λ (x : Option NetDriver). FirstOn board s k (pin ∷ pins) x) (sym w)
         (later o (ap (λ (x : Option PinAt). enables_where board s x) a) r)

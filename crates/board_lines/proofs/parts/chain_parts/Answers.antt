@@ -11,7 +11,7 @@ loop-line-preserved c = record {
   parts =
       parts_step c.args.lines.now c.loop-line.line-index c.line-item.result
       (into_iter_items c.loop-line.devices) (into_iter_items c.part_of_line.new.devices)
-      c.in_ok-part.part c.loop-line.parts.items c.push_some.new.parts.items _ c.loop-line-test.true
+      c.in_ok-part.part c.loop-line.parts.items c.push_some.new.items.items _ c.loop-line-test.true
       (sym c.line-item.is) c.in_ok-part.ensures.part c.in_ok-part.ensures.rest
       c.in_ok-push_some.ensures c.loop-line.invariant.parts;
   kinds =

@@ -1,7 +1,8 @@
 use Rattle.std.proofs.Common.{◌++◌, List, take, ap, sym, ◌∙◌}
+use Rattle.std.specs.Option.{option_to_list}
 use Rattle.board_defs.specs.declared.board.NetPin.{NetPin}
 use Rattle.net_pins.specs.declared.nets.NetDriver.{NetDriver}
-use Rattle.net_pins.specs.NetCells.{optional, driver_of}
+use Rattle.net_pins.specs.NetCells.{driver_of}
 use Rattle.net_pins.proofs.PositionLemmas.{gathered-more}
 use Rattle.net_pins.proofs.nets.drivers_of_pins.Goals as goal
 
@@ -12,10 +13,10 @@ loop-place-preserved c =
     let pin : NetPin = c.index-pins-place.result in
     let done : List NetDriver = c.loop-place.drivers.items in
     c.in_ok-push_some.ensures
-    ∙ ap (λ d. done ++ optional d) c.driver_of.ensures
+    ∙ ap (λ d. done ++ option_to_list d) c.driver_of.ensures
     ∙ ap
     (λ (l : List NetDriver). l
-    ++ optional
+    ++ option_to_list
     (driver_of board place (Rattle.std.proofs.Common.get_or c.args.pins.now place pin).at))
     c.loop-place.invariant
-    ∙ sym (gathered-more (λ k (p : NetPin). optional (driver_of board k p.at)) c.args.pins.now place pin c.loop-place-test.true)
+    ∙ sym (gathered-more (λ k (p : NetPin). option_to_list (driver_of board k p.at)) c.args.pins.now place pin c.loop-place-test.true)
