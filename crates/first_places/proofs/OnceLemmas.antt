@@ -84,7 +84,7 @@ once_step {I} eq items i x done kept all true within read found taken same =
     ∙ ap (λ (k : List I). k ++ once_from eq (take (i + 1) items) (drop (i + 1) items))
     (sym taken)
 
--- `done` with `x` appended unless `was` is true
+-- the two forms of the list `done` with `x` appended unless `was` is true
 pub unless : {I : Type 0} (was : Bool) (done : List I) (x : I) → done ++ cond (not was) (x ∷ []) [] ≡ cond was done (done ++ x ∷ [])
 unless true done x = append-nil done
 unless false done x = refl
