@@ -20,6 +20,7 @@ use port_entries::BitEntries;
 use response_log::{Log, LogFault};
 use scan_planner::Plan;
 use series_parts::{Joined, LinkFault};
+use short_lists::{ShortSlice, ShortText, ShortTexts, TextList, TextSlice};
 use side_by_side::Workers;
 use walk_test::{Group, Walk};
 
@@ -45,6 +46,15 @@ fn stores_sinks_rows_and_lines_may_be_shared() {
     is_shared::<RowStack>();
     is_shared::<Line>();
     is_shared::<HexFault>();
+}
+
+#[test]
+fn short_lists_and_texts_may_be_shared() {
+    is_shared::<ShortSlice<'static, u32>>();
+    is_shared::<TextSlice<'static>>();
+    is_shared::<TextList<'static>>();
+    is_shared::<ShortText>();
+    is_shared::<ShortTexts>();
 }
 
 #[test]
