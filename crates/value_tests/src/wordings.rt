@@ -19,6 +19,7 @@ use refusal_lines::{
 use response_log::LogFault;
 use series_parts::LinkFault;
 use std::alloc::{AllocError, Global};
+use std::fmt::Display;
 use thiserror::Error;
 
 /// The reason why a test fails.
@@ -563,13 +564,18 @@ fn faults_of_the_second_of_two_texts(rt: HostRuntime) -> Result<(), Missed> {
     inputs_hold(rt.alloc(), TWO_TEXTS, &SECOND_TEXTS)
 }
 
-#[test]
-fn faults_of_logs(rt: HostRuntime) -> Result<(), Missed> {
-    let alloc = rt.alloc();
-    for (row, (fault, start, text, end)) in LOGS.iter().enumerate() {
+// Checks a table of faults in a log or a batch. `put` writes the refusal line for a fault.
+fn refusals_hold<F: Display, P: Fn(&F, &mut MemSink) -> Result<(), PutFault>>(
+    alloc: Global,
+    rows: &[(F, &str, &str, &str)],
+    put: P,
+) -> Result<(), Missed>
+    requires { P.IsAlwaysCallable put }
+{
+    for (row, (fault, start, text, end)) in rows.iter().enumerate() {
         expect(row, fault.to_string(alloc)?.as_str() == *text)?;
         let mut notes = MemSink::with_room(alloc, 100)?;
-        put_log_fault("g", ROWS, fault, &mut notes)?;
+        put(fault, &mut notes)?;
         expect(
             row,
             is_joined(alloc, notes.bytes(), &[start, text, end, "\n"])?,
@@ -579,40 +585,40 @@ fn faults_of_logs(rt: HostRuntime) -> Result<(), Missed> {
 }
 
 #[test]
+fn faults_of_logs(rt: HostRuntime) -> Result<(), Missed> {
+    refusals_hold(rt.alloc(), &LOGS, |fault, notes| {
+        put_log_fault("g", ROWS, fault, notes)
+    })
+}
+
+#[test]
 fn faults_of_batches(rt: HostRuntime) -> Result<(), Missed> {
-    let alloc = rt.alloc();
-    for (row, (fault, start, text, end)) in BATCHES.iter().enumerate() {
+    refusals_hold(rt.alloc(), &BATCHES, |fault, notes| {
+        put_batch_fault("g", ROWS, fault, notes)
+    })
+}
+
+// Checks a table of faults without a refusal line of their own, such as `STRINGS`.
+fn parts_hold<F: Display, W: Display>(
+    alloc: Global,
+    rows: &[(F, W, &str, &str)],
+) -> Result<(), Missed> {
+    for (row, (fault, whole, start, text)) in rows.iter().enumerate() {
         expect(row, fault.to_string(alloc)?.as_str() == *text)?;
-        let mut notes = MemSink::with_room(alloc, 100)?;
-        put_batch_fault("g", ROWS, fault, &mut notes)?;
-        expect(
-            row,
-            is_joined(alloc, notes.bytes(), &[start, text, end, "\n"])?,
-        )?;
+        let whole = whole.to_string(alloc)?;
+        expect(row, is_joined(alloc, whole.as_bytes(), &[start, text])?)?;
     }
     Ok(())
 }
 
 #[test]
 fn faults_of_strings(rt: HostRuntime) -> Result<(), Missed> {
-    let alloc = rt.alloc();
-    for (row, (fault, whole, start, text)) in STRINGS.iter().enumerate() {
-        expect(row, fault.to_string(alloc)?.as_str() == *text)?;
-        let whole = whole.to_string(alloc)?;
-        expect(row, is_joined(alloc, whole.as_bytes(), &[start, text])?)?;
-    }
-    Ok(())
+    parts_hold(rt.alloc(), &STRINGS)
 }
 
 #[test]
 fn faults_of_digits(rt: HostRuntime) -> Result<(), Missed> {
-    let alloc = rt.alloc();
-    for (row, (fault, whole, start, text)) in DIGITS.iter().enumerate() {
-        expect(row, fault.to_string(alloc)?.as_str() == *text)?;
-        let whole = whole.to_string(alloc)?;
-        expect(row, is_joined(alloc, whole.as_bytes(), &[start, text])?)?;
-    }
-    Ok(())
+    parts_hold(rt.alloc(), &DIGITS)
 }
 
 // Writes the refusal line for a failed fetch of the text `g`, for which the limit is 64 bytes.
