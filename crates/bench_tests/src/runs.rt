@@ -266,7 +266,7 @@ static ROWS: [Failing; 6] = [
             texts: &[],
             rows: Rows::Words(&["cover c n drv", "cover c n"], " rcv", &ONE_WORD),
         },
-        0,
+        1,
         Status::Refused,
     ),
 ];

@@ -93,7 +93,8 @@ pub enum Rows {
     /// Command lines that are not valid. The first read would fail, so the rows show that btest reads nothing.
     NoCommands(&'static [&'static str]),
     /// Command lines, a word with a space before it, and numbers with expected results. For each number, each line is run with the word
-    /// appended this many times.
+    /// appended this many times. Each of these runs counts as a row: first the runs of all lines with the first number, in the order of
+    /// the lines, then those with the second number, and so on.
     Words(&'static [&'static str], &'static str, &'static [(usize, Ending<'static>)]),
 }
 
@@ -344,12 +345,14 @@ fn words_hold(
     word: &str,
     rows: &[(usize, Ending<'static>)],
 ) -> Result<(), RowFault> {
-    for (i, (count, ending)) in rows.iter().enumerate() {
+    let mut run = 0usize;
+    for (count, ending) in rows {
         let words = word.repeat(alloc, *count)?;
         for line in lines {
             let mut bench = bench_of(alloc, table)?;
             let line = format!(in alloc; "{line}{words}")?;
-            bench.ends(rt, table.name, i, &line, *ending)?;
+            bench.ends(rt, table.name, run, &line, *ending)?;
+            run = run.saturating_add(1);
         }
     }
     Ok(())
