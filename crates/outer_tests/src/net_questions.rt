@@ -356,12 +356,16 @@ fn all_answer(
 
 fn classified_answers(alloc: Global, board: &Board, asked: Asked) -> Result<(), RowFault> {
     let classes = classify(alloc, board)?;
-    all_answer(board, &classes, asked.0, asked.2)
+    let answer = all_answer(board, &classes, asked.0, asked.2);
+    drop(classes);
+    answer
 }
 
 fn board_answers(alloc: Global, asked: Asked) -> Result<(), RowFault> {
     let board = board_of(alloc, asked.1)?;
-    classified_answers(alloc, &board, asked)
+    let answer = classified_answers(alloc, &board, asked);
+    drop(board);
+    answer
 }
 
 #[test]

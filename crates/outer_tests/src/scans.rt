@@ -31,14 +31,12 @@ enum Scan {
     Compares(u64, u64, u64),
 }
 
-// Returns whether a scan with this shape and these bits of TDI, TDO and MASK is `scan`.
-fn is_scan(shape: Shape, [tdi, tdo, mask]: [u64; 3], scan: Scan) -> bool {
-    let (ir, compare, bits) = match scan {
-        Scan::Codes(tdi, tdo, mask) => (true, true, (tdi, tdo, mask)),
-        Scan::Shifts(tdi) => (false, false, (tdi, 0, 0)),
-        Scan::Compares(tdi, tdo, mask) => (false, true, (tdi, tdo, mask)),
-    };
-    shape.ir == ir && shape.compare == compare && bits == (tdi, tdo, mask)
+// The rows of a scan.
+#[derive(Drop)]
+struct ScanBits {
+    tdi: Row,
+    tdo: Row,
+    mask: Row,
 }
 
 // The way in which a plan is made.
@@ -165,6 +163,30 @@ fn longest_scan(board: &Board) -> u32
     board.ir_bits().max(board.dr_bits())
 }
 
+// Returns empty rows with room for each scan of the board.
+fn empty_rows(alloc: Global, board: &Board) -> Result<ScanBits, AllocError>
+    ensures tdi { IfOk result (λ rows. IsRoom board.now rows.tdi.room) }
+    ensures tdo { IfOk result (λ rows. IsRoom board.now rows.tdo.room) }
+    ensures mask { IfOk result (λ rows. IsRoom board.now rows.mask.room) }
+{
+    let room = longest_scan(board);
+    let tdi = Row::with_room(alloc, room)?;
+    let tdo = Row::with_room(alloc, room)?;
+    let mask = Row::with_room(alloc, room)?;
+    Ok(ScanBits { tdi, tdo, mask })
+}
+
+// Returns whether a scan with this shape and these rows is `scan`.
+fn is_scan(shape: Shape, rows: &ScanBits, scan: Scan) -> bool {
+    let (ir, compare, bits) = match scan {
+        Scan::Codes(tdi, tdo, mask) => (true, true, (tdi, tdo, mask)),
+        Scan::Shifts(tdi) => (false, false, (tdi, 0, 0)),
+        Scan::Compares(tdi, tdo, mask) => (false, true, (tdi, tdo, mask)),
+    };
+    let found = (number(&rows.tdi), number(&rows.tdo), number(&rows.mask));
+    shape.ir == ir && shape.compare == compare && found == bits
+}
+
 // Returns whether scan `k` of the board's plan is the scan `wanted`. `k` must be below the number of scans.
 fn scan_is(
     alloc: Global,
@@ -176,13 +198,9 @@ fn scan_is(
     requires plan { IsPlanOf board.now plan.now }
     requires scan { k < scan_count plan.now }
 {
-    let room = longest_scan(board);
-    let mut tdi = Row::with_room(alloc, room)?;
-    let mut tdo = Row::with_room(alloc, room)?;
-    let mut mask = Row::with_room(alloc, room)?;
-    let shape = plan.fill(board, k, &mut tdi, &mut tdo, &mut mask);
-    let bits = [number(&tdi), number(&tdo), number(&mask)];
-    Ok(is_scan(shape, bits, wanted))
+    let mut rows = empty_rows(alloc, board)?;
+    let shape = plan.fill(board, k, &mut rows.tdi, &mut rows.tdo, &mut rows.mask);
+    Ok(is_scan(shape, &rows, wanted))
 }
 
 // Returns whether the plan gives these codes to these nets.
@@ -251,18 +269,29 @@ fn empty_plan(alloc: Global, board: &Board) -> Result<Plan, AllocError>
     Ok(plan)
 }
 
-fn new_plan_holds(alloc: Global, board: &Board, wanted: &Planned) -> Result<(), RowFault> {
-    let plan = match wanted.making {
-        Making::Passes => new_plan(alloc, board)?,
-        Making::Pins => plan_by_pins(alloc, board)?,
-        Making::Nothing => empty_plan(alloc, board)?,
-    };
-    plan_holds(alloc, board, &plan, wanted)
+// Returns the plan that is made in this way.
+fn made_plan(alloc: Global, board: &Board, making: Making) -> Result<Plan, AllocError>
+    ensures { IfOk result (λ plan. IsPlanOf board.now plan) }
+{
+    match making {
+        Making::Passes => new_plan(alloc, board),
+        Making::Pins => plan_by_pins(alloc, board),
+        Making::Nothing => empty_plan(alloc, board),
+    }
+}
+
+fn made_plan_holds(alloc: Global, board: &Board, wanted: &Planned) -> Result<(), RowFault> {
+    let plan = made_plan(alloc, board, wanted.making)?;
+    let held = plan_holds(alloc, board, &plan, wanted);
+    drop(plan);
+    held
 }
 
 fn planned_holds(alloc: Global, wanted: &Planned) -> Result<(), RowFault> {
     let board = board_of(alloc, wanted.files)?;
-    new_plan_holds(alloc, &board, wanted)
+    let held = made_plan_holds(alloc, &board, wanted);
+    drop(board);
+    held
 }
 
 #[test]
@@ -334,13 +363,9 @@ fn walk_scan_is(
     requires walk { IsWalkOf board.now walk.now }
     requires scan { k < walk_scan_count walk.now }
 {
-    let room = longest_scan(board);
-    let mut tdi = Row::with_room(alloc, room)?;
-    let mut tdo = Row::with_room(alloc, room)?;
-    let mut mask = Row::with_room(alloc, room)?;
-    let shape = walk.fill(board, k, &mut tdi, &mut tdo, &mut mask);
-    let bits = [number(&tdi), number(&tdo), number(&mask)];
-    Ok(is_scan(shape, bits, wanted))
+    let mut rows = empty_rows(alloc, board)?;
+    let shape = walk.fill(board, k, &mut rows.tdi, &mut rows.tdo, &mut rows.mask);
+    Ok(is_scan(shape, &rows, wanted))
 }
 
 // Checks the nets and the scans of the board's walking test.
@@ -373,12 +398,16 @@ fn new_walk(alloc: Global, board: &Board) -> Result<Walk, AllocError>
 
 fn new_walk_holds(alloc: Global, board: &Board, wanted: &Walked) -> Result<(), RowFault> {
     let walk = new_walk(alloc, board)?;
-    walk_holds(alloc, board, &walk, wanted)
+    let held = walk_holds(alloc, board, &walk, wanted);
+    drop(walk);
+    held
 }
 
 fn walked_holds(alloc: Global, wanted: &Walked) -> Result<(), RowFault> {
     let board = board_of(alloc, wanted.files)?;
-    new_walk_holds(alloc, &board, wanted)
+    let held = new_walk_holds(alloc, &board, wanted);
+    drop(board);
+    held
 }
 
 #[test]
