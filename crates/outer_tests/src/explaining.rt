@@ -11,7 +11,7 @@ ghost use Rattle.fault_sim.specs.Places.{IsUniverse};
 use crate::boards::{BIDIR, Files, GROUPS, PAIR, PULLED, board_of, log_of, plan_of};
 use board_defs::{Board, Kind, Single};
 use bt_base::OpenGate;
-use diagnoser::{diagnose, diagnose_in};
+use diagnoser::{Verdict, diagnose, diagnose_in};
 use fault_sim::{BoardTest, ComparedLog, LoggedTest, Suspects, Universe, is_pass, matches};
 use response_log::Log;
 use run_bench::{RowFault, expect};
@@ -295,6 +295,54 @@ struct Tested<'a> {
     universe: &'a Universe,
 }
 
+// A row of the logs of a board, with its number, counted from 0.
+#[derive(Clone, Copy)]
+struct LogRow<'a> {
+    rows: &'a Rows,
+    number: usize,
+    wanted: &'a Logged,
+}
+
+impl<'a> LogRow<'a> {
+    // Returns an error that names the row unless `holds` is true.
+    fn expect(self, holds: bool) -> Result<(), RowFault> {
+        expect(self.rows.name, self.number, holds)
+    }
+
+    // Returns whether these are the suspects, in the order of their places.
+    fn has_suspects(self, suspects: Suspects) -> bool {
+        are_places(&suspects, self.wanted.suspects)
+    }
+
+    // Returns whether these are the faults that explain the log, in the order of their places.
+    fn has_faults(self, alloc: Global, faults: &[Single]) -> Result<bool, AllocError> {
+        are_faults(alloc, faults, self.wanted.explaining, self.rows.places)
+    }
+
+    // Returns whether a diagnosis found the faults that explain the log.
+    fn has_diagnosis(self, alloc: Global, faults: Vec<Single>) -> Result<bool, AllocError> {
+        self.has_faults(alloc, &faults)
+    }
+
+    // Returns whether the verdict says whether the log passes, and has the faults that explain it.
+    fn is_verdict(self, alloc: Global, verdict: &Verdict) -> Result<bool, AllocError> {
+        if verdict.pass != self.wanted.passes {
+            return Ok(false);
+        }
+        self.has_faults(alloc, verdict.faults.as_slice())
+    }
+
+    // Like `is_verdict`, but takes the result of a call that finds a verdict.
+    fn has_verdict(
+        self,
+        alloc: Global,
+        found: Result<Verdict, AllocError>,
+    ) -> Result<bool, AllocError> {
+        let verdict = found?;
+        self.is_verdict(alloc, &verdict)
+    }
+}
+
 fn word(kind: Kind) -> &'static str {
     match kind {
         Kind::And => "and",
@@ -416,23 +464,6 @@ fn are_places(suspects: &Suspects, places: &[u64]) -> bool {
     true
 }
 
-// Returns whether the suspects of a log are these places, in this order.
-fn suspects_are(
-    alloc: Global,
-    tested: Tested<'_>,
-    log: &Log,
-    places: &[u64],
-) -> Result<bool, AllocError>
-    requires plan { IsPlanOf tested.board.now tested.plan.now }
-    requires passes { tested.plan.now.passes ≡ passes_of tested.board.now }
-    requires universe { IsUniverse tested.board.now tested.universe.now }
-    requires rows { length log.now ≡ length tested.plan.now.passes * tested.plan.now.width }
-    requires bits { All (λ row. length row ≡ data_bits tested.board.now) log.now }
-{
-    let suspects = Suspects::new(alloc, tested.board, tested.plan, tested.universe, log)?;
-    Ok(are_places(&suspects, places))
-}
-
 // Returns whether the faults are those at these places, in this order. `words` has the fault at each place of the universe, as `shown`
 // writes it.
 fn are_faults(
@@ -453,37 +484,31 @@ fn are_faults(
     Ok(true)
 }
 
-// Returns whether `diagnose` finds the faults at these places, in this order, with this number of workers, from 1 to 64. The universe in
-// `tested` is not used.
-fn diagnosis_is(
-    rt: &(impl Threads + Sync),
+// Returns whether the faults that explain a log are those of its row. Asks the functions that take a compared log.
+fn is_compared(
     alloc: Global,
     tested: Tested<'_>,
     log: &Log,
-    workers: u32,
-    places: &[u64],
-    words: &[&str],
+    row: LogRow<'_>,
 ) -> Result<bool, AllocError>
-    requires some { 1 ≤ workers }
-    requires few { workers ≤ 64 }
     requires plan { IsPlanOf tested.board.now tested.plan.now }
     requires passes { tested.plan.now.passes ≡ passes_of tested.board.now }
+    requires universe { IsUniverse tested.board.now tested.universe.now }
     requires rows { length log.now ≡ length tested.plan.now.passes * tested.plan.now.width }
     requires bits { All (λ row. length row ≡ data_bits tested.board.now) log.now }
 {
-    let (board, plan) = (tested.board, tested.plan);
-    let faults = diagnose(rt, alloc, board, plan, log, workers, &OpenGate)?;
-    are_faults(alloc, &faults, places, words)
+    let compared = LoggedTest::of(tested.board, tested.plan, log).compared(alloc)?;
+    let holds = only_these_explain(tested, log, &compared, row.wanted.explaining);
+    Ok(holds)
 }
 
-// Returns whether the verdict that three workers find on a log has the faults at these places, in this order.
-fn verdict_is(
+// Returns whether three workers find the verdict of the row of a log. The universe in `tested` is not used.
+fn is_judged(
     rt: &(impl Threads + Sync),
     alloc: Global,
     tested: Tested<'_>,
     log: &Log,
-    places: &[u64],
-    words: &[&str],
+    row: LogRow<'_>,
 ) -> Result<bool, AllocError>
     requires plan { IsPlanOf tested.board.now tested.plan.now }
     requires passes { tested.plan.now.passes ≡ passes_of tested.board.now }
@@ -491,20 +516,18 @@ fn verdict_is(
     requires bits { All (λ row. length row ≡ data_bits tested.board.now) log.now }
 {
     let test = BoardTest::of(tested.board, tested.plan).with_universe(alloc)?;
-    let verdict = diagnose_in(rt, alloc, &test, log, Workers::of(3), &OpenGate)?;
-    are_faults(alloc, verdict.faults.as_slice(), places, words)
+    let verdict = diagnose_in(rt, alloc, &test, log, Workers::of(3), &OpenGate);
+    row.has_verdict(alloc, verdict)
 }
 
-// Checks the answers for a log against its row `wanted`: whether the log passes, its suspects, and the faults that `diagnose` finds with 1,
-// 2 and 64 workers.
+// Checks the answers for a log against its row: whether the log passes, its suspects, the faults that `diagnose` finds with 1, 2 and 64
+// workers, the faults that explain the log, and the verdict.
 fn log_holds(
     rt: &(impl Threads + Sync),
     alloc: Global,
     tested: Tested<'_>,
     log: &Log,
-    rows: &Rows,
-    row: usize,
-    wanted: &Logged,
+    row: LogRow<'_>,
 ) -> Result<(), RowFault>
     requires plan { IsPlanOf tested.board.now tested.plan.now }
     requires passes { tested.plan.now.passes ≡ passes_of tested.board.now }
@@ -512,67 +535,36 @@ fn log_holds(
     requires rows { length log.now ≡ length tested.plan.now.passes * tested.plan.now.width }
     requires bits { All (λ row. length row ≡ data_bits tested.board.now) log.now }
 {
-    let (name, explaining) = (rows.name, wanted.explaining);
-    expect(
-        name,
-        row,
-        is_pass(tested.board, tested.plan, log) == wanted.passes,
-    )?;
-    expect(
-        name,
-        row,
-        suspects_are(alloc, tested, log, wanted.suspects)?,
-    )?;
+    let Tested {
+        board,
+        plan,
+        universe,
+    } = tested;
+    row.expect(is_pass(board, plan, log) == row.wanted.passes)?;
+    let suspects = Suspects::new(alloc, board, plan, universe, log)?;
+    row.expect(row.has_suspects(suspects))?;
     for workers in [1u32, 2, 64] {
-        let holds = diagnosis_is(rt, alloc, tested, log, workers, explaining, rows.places)?;
-        expect(name, row, holds)?;
+        let faults = diagnose(rt, alloc, board, plan, log, workers, &OpenGate)?;
+        row.expect(row.has_diagnosis(alloc, faults)?)?;
     }
-    Ok(())
-}
-
-// Checks the answers of two more kinds of calls against the row of the log: calls that take a compared log, and calls that take a test and
-// its universe.
-fn comparison_holds(
-    rt: &(impl Threads + Sync),
-    alloc: Global,
-    tested: Tested<'_>,
-    log: &Log,
-    rows: &Rows,
-    row: usize,
-    wanted: &Logged,
-) -> Result<(), RowFault>
-    requires plan { IsPlanOf tested.board.now tested.plan.now }
-    requires passes { tested.plan.now.passes ≡ passes_of tested.board.now }
-    requires universe { IsUniverse tested.board.now tested.universe.now }
-    requires rows { length log.now ≡ length tested.plan.now.passes * tested.plan.now.width }
-    requires bits { All (λ row. length row ≡ data_bits tested.board.now) log.now }
-{
-    let (name, explaining) = (rows.name, wanted.explaining);
-    let compared = LoggedTest::of(tested.board, tested.plan, log).compared(alloc)?;
-    expect(
-        name,
-        row,
-        only_these_explain(tested, log, &compared, explaining),
-    )?;
-    let holds = verdict_is(rt, alloc, tested, log, explaining, rows.places)?;
-    expect(name, row, holds)
+    row.expect(is_compared(alloc, tested, log, row)?)?;
+    row.expect(is_judged(rt, alloc, tested, log, row)?)
 }
 
 fn read_log_holds(
     rt: &(impl Threads + Sync),
     alloc: Global,
     tested: Tested<'_>,
-    rows: &Rows,
-    row: usize,
-    wanted: &Logged,
+    row: LogRow<'_>,
 ) -> Result<(), RowFault>
     requires plan { IsPlanOf tested.board.now tested.plan.now }
     requires passes { tested.plan.now.passes ≡ passes_of tested.board.now }
     requires universe { IsUniverse tested.board.now tested.universe.now }
 {
-    let log = log_of(alloc, tested.board, tested.plan, wanted.log)?;
-    log_holds(rt, alloc, tested, &log, rows, row, wanted)?;
-    comparison_holds(rt, alloc, tested, &log, rows, row, wanted)
+    let log = log_of(alloc, tested.board, tested.plan, row.wanted.log)?;
+    let held = log_holds(rt, alloc, tested, &log, row);
+    drop(log);
+    held
 }
 
 fn tested_holds(
@@ -586,8 +578,13 @@ fn tested_holds(
     requires universe { IsUniverse tested.board.now tested.universe.now }
 {
     expect("places", 0, has_places(alloc, tested, rows.places)?)?;
-    for (row, wanted) in rows.logs.iter().enumerate() {
-        read_log_holds(rt, alloc, tested, rows, row, wanted)?;
+    for (number, wanted) in rows.logs.iter().enumerate() {
+        let row = LogRow {
+            rows,
+            number,
+            wanted,
+        };
+        read_log_holds(rt, alloc, tested, row)?;
     }
     Ok(())
 }
@@ -608,7 +605,9 @@ fn planned_holds(
         plan,
         universe: &universe,
     };
-    tested_holds(rt, alloc, tested, rows)
+    let held = tested_holds(rt, alloc, tested, rows);
+    drop(universe);
+    held
 }
 
 fn board_holds(
@@ -618,12 +617,16 @@ fn board_holds(
     rows: &Rows,
 ) -> Result<(), RowFault> {
     let plan = plan_of(alloc, board)?;
-    planned_holds(rt, alloc, board, &plan, rows)
+    let held = planned_holds(rt, alloc, board, &plan, rows);
+    drop(plan);
+    held
 }
 
 fn rows_hold(rt: &(impl Threads + Sync), alloc: Global, rows: &Rows) -> Result<(), RowFault> {
     let board = board_of(alloc, rows.files)?;
-    board_holds(rt, alloc, &board, rows)
+    let held = board_holds(rt, alloc, &board, rows);
+    drop(board);
+    held
 }
 
 #[test]

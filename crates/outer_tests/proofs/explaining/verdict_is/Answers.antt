@@ -1,6 +1,0 @@
-use Rattle.std.proofs.Common.{◌∙◌}
-use Rattle.outer_tests.proofs.explaining.verdict_is.Goals as goal
-
-pub diagnose_in-requires-clause-log : goal.diagnose_in-requires-clause-log
-diagnose_in-requires-clause-log g c = λ κs within.
-    rw (c.in_ok-test.ensures ∙ c.of.ensures) (record { rows = c.requires.rows; bits = c.requires.bits })
