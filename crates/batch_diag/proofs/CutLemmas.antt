@@ -1,4 +1,4 @@
--- Lemmas about cutting the text of a batch at its titles.
+-- Lemmas about the first line of a kind in the text of a batch, and about cutting the text at its titles.
 use Rattle.std.proofs.Common.{◌≡◌, ℕ, suc, ◌+◌, ◌-◌, ◌<◌, ◌≤◌, Bool, true, false, cond, not, Option, Some, None, List, [], ◌∷◌, ◌++◌, length, take, refl, sym, ap, ◌∙◌, subst, arith, append_assoc, append-nil, length-append, Bor}
 use Rattle.std.specs.Prelude.{filter, take_while, codes, IfSome, IfNone, option_copied, ◌&&◌, ◌==◌}
 use Rattle.std.specs.Str.{bytes_eq}
@@ -42,7 +42,7 @@ pub title_wrong : (n : ℕ) (words : List Word) (later : List NumberedLine)
 title_wrong n [] later wrong = absurd cc
 title_wrong n (word ∷ words) later wrong = ap (λ b. cond b (Some (Title n)) (title_fault later)) wrong
 
--- a line that has words comes before the later lines
+-- A line that has words is the first of the numbered lines, and `later` follows it.
 pub worded : (n : ℕ) (words : List Word) (later : List NumberedLine) → holds_word words ≡ true
     → with_line n words later ≡ record { number = n; words = words } ∷ later
 worded n [] later none = absurd cc
@@ -271,7 +271,7 @@ module _ (test : List Word → Bool) (text : List ℕ) (n k : ℕ) (left line : 
   pub found_earlier : NoneIs test (rows_from n (take (length text - length left) text))
   found_earlier = subst (NoneIs test) (sym own_rows) passed.none
 
--- if no line with words has words, there is no line with words
+-- If no line has words, the text has no numbered lines.
 wordless : (n : ℕ) (lines : List (List ℕ)) → NoneIs holds_word (rows_at n lines) → rows_at n lines ≡ []
 wordless n [] none = refl
 wordless n (line ∷ lines) none = by_words (words_of line) none (wordless (n + 1) lines)
@@ -282,7 +282,7 @@ wordless n (line ∷ lines) none = by_words (words_of line) none (wordless (n + 
     by_words [] none below = below none
     by_words (word ∷ words) none below = let clash : true ≡ false = none 0 (record { number = n; words = [] }) (omega arith) in absurd cc
 
--- What the first line of a kind says of all lines of a text. Without such a line, all lines are like the lines before it.
+-- Lemmas that give the faults and the blocks of a text, first if no line is of a kind, then from the first line of the kind.
 module _ (n : ℕ) (text : List ℕ) where
   pub no_start : NoneIs (is_of_kind WithWords) (rows_from n text) → start_fault (rows_from n text) ≡ None
   no_start none = ap start_fault (wordless n (slice_split is_newline text) none)

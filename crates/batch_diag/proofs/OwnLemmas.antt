@@ -80,7 +80,7 @@ no_titles n (line ∷ lines) none =
     with_row n (words_of line) (rows_at (n + 1) lines) (All-head IsNoTitle line lines none)
     (no_titles (n + 1) lines (All-tail IsNoTitle line lines none))
 
--- a title comes before the later lines
+-- A title is the first of the numbered lines, and `later` follows it.
 titled : (n : ℕ) (title : List ℕ) (later : List NumberedLine) → IsTitle title
     → with_line n (words_of title) later ≡ record { number = n; words = words_of title } ∷ later
 titled n title later is = worded n (words_of title) later (title_words (words_of title) is)

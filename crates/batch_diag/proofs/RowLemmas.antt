@@ -14,7 +14,7 @@ IsRow line = begins_block line ≡ false
 abbrev pub IsRight : NumberedLine → Type 0
 IsRight line = is_wrong_title line ≡ false
 
-pub row_not_wrong : (line : NumberedLine) → IsRow line → IsRight line
+row_not_wrong : (line : NumberedLine) → IsRow line → IsRight line
 row_not_wrong line row = ap (λ (b : Bool). b && not (names_board line.words)) row
 
 -- a title that is not wrong names a board

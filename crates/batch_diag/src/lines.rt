@@ -105,7 +105,7 @@ enum LineKind {
     WrongTitle,
 }
 
-// Returns whether a line is of this kind.
+// Returns whether a line belongs to `kind`.
 fn is_of_kind(line: &[u8], kind: LineKind) -> bool
     ensures { result ≡ is_of_kind kind (words_of line.now) }
 {

@@ -20,7 +20,7 @@ fn described(alloc: Global, name: &Name, device: Device) -> Result<Part, AllocEr
 {
     let _ = device.raw();
     Ok(Part {
-        name: Name::of(alloc, name.bytes())?,
+        name: name.copy(alloc)?,
         kind: PartKind::Described(device),
     })
 }
@@ -32,7 +32,7 @@ fn bypass(alloc: Global, name: &Name, length: u32) -> Result<Part, AllocError>
     ensures kind { IfOk result (λ part. IsPart part.kind) }
 {
     Ok(Part {
-        name: Name::of(alloc, name.bytes())?,
+        name: name.copy(alloc)?,
         kind: PartKind::Bypass(length),
     })
 }

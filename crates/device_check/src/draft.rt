@@ -70,7 +70,7 @@ fn parts_of(alloc: Global, entity: &Entity, needed: &Needed) -> Result<EntityPar
           taps_of entity.now (needed_view needed.now),
         )) }
 {
-    let name = Name::of(alloc, entity.name.bytes())?;
+    let name = entity.name.copy(alloc)?;
     let package = Name::of(alloc, needed.chosen.name)?;
     let ports = copied_ports(alloc, entity.ports.as_slice())?;
     let taps = taps_of(alloc, entity, needed)?;

@@ -1,5 +1,5 @@
 // Writes the lines of a diagnosis.
-ghost use Rattle.std.specs.Prelude.{[], ◌∷◌, Some, codes, decimal};
+ghost use Rattle.std.specs.Prelude.{[], ◌∷◌, Some, codes};
 ghost use Rattle.line_printer.specs.Prints.{Prints, line_of};
 ghost use Rattle.diagnoser.specs.DiagText.{stuck_line, open_line, short_fault_line, short_line, fail_line};
 

@@ -40,7 +40,7 @@ fn with_place(block: Block, place: usize) -> Block
 }
 
 /// Appends the block unless it is empty.
-fn push_some(blocks: &mut Blocks, block: Block) -> Result<(), AllocError>
+fn push_filled(blocks: &mut Blocks, block: Block) -> Result<(), AllocError>
     ensures { OnOk result ((q : ℕ) →
         has_place blocks.new q ≡ (has_place blocks.old q || block_has block q)) }
 {
@@ -60,7 +60,7 @@ fn next_block(blocks: &mut Blocks, last: Block, place: usize) -> Result<Block, A
     if place / 64 == last.word {
         return Ok(with_place(last, place));
     }
-    push_some(blocks, last)?;
+    push_filled(blocks, last)?;
     Ok(block_of(place))
 }
 
@@ -73,6 +73,6 @@ pub fn blocks_of(alloc: Global, places: &[usize]) -> Result<Blocks, AllocError>
     for place in places {
         last = next_block(&mut blocks, last, *place)?;
     }
-    push_some(&mut blocks, last)?;
+    push_filled(&mut blocks, last)?;
     Ok(blocks)
 }

@@ -119,8 +119,7 @@ fn kept_count(board: &Board, plan: &Plan, logs: usize) -> u32
 }
 
 impl<'a> BoardTest<'a> {
-    /// Returns the first passes of the test as kept passes, for use with `logs` logs. The kept passes take at most about 64 MiB. For
-    /// fewer than two logs, returns no passes.
+    /// Returns the passes that `with_kept_passes` keeps.
     pub(crate) fn kept_passes(
         &self,
         alloc: Global,

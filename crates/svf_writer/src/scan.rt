@@ -32,10 +32,8 @@ fn begin(ir: bool, tdi: &Row, line: &mut Line)
     line.push_number(u64::from(tdi.len()));
 }
 
-// Appends a label and the digits of a row to the line. The row must have at most `most_bits` bits,
-// and the line must have room for the text.
+// Appends a label and the digits of a row to the line. The line must have room for the text.
 fn push_field(label: &[u8], row: &Row, line: &mut Line)
-    requires bits { length row.now.bits ≤ most_bits }
     requires room { length line.old + length label.now + digit_count (length row.now.bits) ≤ 1024 }
     ensures text { line.new ≡ line.old ++ (label.now ++ hex_text row.now.bits) }
     ensures longer { length line.new
@@ -46,9 +44,8 @@ fn push_field(label: &[u8], row: &Row, line: &mut Line)
 }
 
 // Appends the fields of a scan and a line feed to the line with the command. The rows must have the
-// same length, at most `most_bits`, and the line must have room for the fields.
+// same length, and the line must have room for the fields.
 fn push_fields(compare: bool, tdi: &Row, tdo: &Row, mask: &Row, line: &mut Line)
-    requires bits { length tdi.now.bits ≤ most_bits }
     requires tdo { length tdo.now.bits ≡ length tdi.now.bits }
     requires mask { length mask.now.bits ≡ length tdi.now.bits }
     requires room { length line.old + 3 * digit_count (length tdi.now.bits) ≤ 1000 }
@@ -112,8 +109,7 @@ fn has_room(compare: bool, tdi: &Row, line: &Line) -> bool
 }
 
 // Writes a field in lines of its own: the label, then the digits, at most 64 in a line, and then
-// `end`. The row must have at most `most_bits` bits, the label at most 6 bytes, and `end` at most
-// 3.
+// `end`. The label must have at most 6 bytes, and `end` at most 3.
 fn put_field<K: Sink>(
     label: &[u8],
     row: &Row,
@@ -121,7 +117,6 @@ fn put_field<K: Sink>(
     line: &mut Line,
     out: &mut K,
 ) -> Result<(), PutFault>
-    requires bits { length row.now.bits ≤ most_bits }
     requires label { length label.now ≤ 6 }
     requires end { length end.now ≤ 3 }
     ensures { Puts (K.shown out.old) (K.shown out.new)
@@ -141,7 +136,7 @@ fn put_field<K: Sink>(
 }
 
 // Writes the fields of a scan that compares some bit, each in lines of its own. The rows must have
-// the same length, at most `most_bits`.
+// the same length.
 fn put_compared<K: Sink>(
     tdi: &Row,
     tdo: &Row,
@@ -149,7 +144,6 @@ fn put_compared<K: Sink>(
     line: &mut Line,
     out: &mut K,
 ) -> Result<(), PutFault>
-    requires bits { length tdi.now.bits ≤ most_bits }
     requires tdo { length tdo.now.bits ≡ length tdi.now.bits }
     requires mask { length mask.now.bits ≡ length tdi.now.bits }
     ensures { Puts (K.shown out.old) (K.shown out.new)
@@ -160,8 +154,7 @@ fn put_compared<K: Sink>(
     put_field(b"MASK (", mask, b");\n", line, out)
 }
 
-// Writes the fields of a scan, each in lines of its own. The rows must have the same length, at
-// most `most_bits`.
+// Writes the fields of a scan, each in lines of its own. The rows must have the same length.
 fn put_fields<K: Sink>(
     compare: bool,
     tdi: &Row,
@@ -170,7 +163,6 @@ fn put_fields<K: Sink>(
     line: &mut Line,
     out: &mut K,
 ) -> Result<(), PutFault>
-    requires bits { length tdi.now.bits ≤ most_bits }
     requires tdo { length tdo.now.bits ≡ length tdi.now.bits }
     requires mask { length mask.now.bits ≡ length tdi.now.bits }
     ensures { Puts (K.shown out.old) (K.shown out.new)

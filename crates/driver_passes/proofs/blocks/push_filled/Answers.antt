@@ -2,7 +2,7 @@ use Rattle.std.proofs.Common.{◌∙◌, ◌||◌, ap, sym}
 use Rattle.std.proofs.Math.Bool.{or-false}
 use Rattle.driver_passes.specs.inner.Blocks.{has_place}
 use Rattle.driver_passes.proofs.BlockLemmas.{block_more, no_place}
-use Rattle.driver_passes.proofs.blocks.push_some.Goals as goal
+use Rattle.driver_passes.proofs.blocks.push_filled.Goals as goal
 
 pub returns-in_ok-push : goal.returns-in_ok-push
 returns-in_ok-push c = λ q. ap (λ v. has_place v q) c.in_ok-push.ensures ∙ block_more c.args.blocks.now c.args.block q
