@@ -165,7 +165,7 @@ def missing_pack(rng, bench):
 
 
 def apart(count):
-    """Single faults on nets of their own."""
+    """Single faults, each on its own nets."""
     def faults(rng, bench):
         nets, found = list(bench.covered), []
         rng.shuffle(nets)
@@ -198,8 +198,8 @@ ROWS = {
     'two receivers of one part exchanged': exchanged_at_part,
     'a pull resistor that is missing': missing_pull,
     'a resistor pack that is missing': missing_pack,
-    'two single faults on nets of their own': apart(2),
-    'three single faults on nets of their own': apart(3),
+    'two single faults, each on its own nets': apart(2),
+    'three single faults, each on its own nets': apart(3),
 }
 
 

@@ -17,8 +17,8 @@ from btest_tools.station import attempts, day, folder, line, page_folder, record
 from btest_tools.station.record import Attempt, Record
 
 EPILOG = """Exit status of test: 0 the board passes, 1 it fails, 2 the command line, 3 the scan
-chain, 4 a wrong part, 5 no cable, no player or no btest, 6 the folder isn't whole, 7 the record
-can't be written, 130 stopped. Of the others: 0 done, 1 refused, and 2, 6 and 7 as above."""
+chain, 4 a wrong part, 5 no result (no cable, for example), 6 the folder isn't whole, 7 the
+record can't be written, 130 stopped. Of the others: 0 done, 1 refused, and 2, 6 and 7 as above."""
 FOLDER = "the folder of the product"
 PLACES = "where the pins are, for pictures: a .kicad_pcb, or a netlist by IPC-D-356"
 SERIAL = "the serial number of a board; behind -- if it begins with -"

@@ -12,7 +12,7 @@ STATEMENT = re.compile(
 
 
 class PlayerFailed(Exception):
-    """Why a text wasn't played: there is no player, no cable, or it was pulled."""
+    """Why a played text gave no result: for example, there is no player or no cable."""
 
 
 class Interrupted(Exception):
