@@ -1,7 +1,8 @@
 #!/usr/bin/env python3
 """Weakens what crates promise, clause by clause, and says which proof refuses each weaker form.
 
-usage: weaken.py CRATE[,CRATE..] [WORD..] [--checked DIR] [--room DIR] [--checks N] [--list]
+usage: weaken.py CRATE[,CRATE..] [WORD..] [--checked DIR] [--room DIR] [--kept FILE] [--checks N]
+                 [--list]
 
 A clause is an `ensures` of a public function that is no method of a trait, or a field of a record
 in specs/. A WORD chooses the forms that have it in their title, as --list prints them: `meet`,
@@ -34,6 +35,10 @@ With --checked DIR the sources and the built libraries are those of DIR, in whic
 them. Otherwise `rt ci` first proves the crates of this checkout in a copy beside the room, except
 what it has proved on this machine before. The room keeps what was checked, so that a later round
 takes less.
+
+A run over all crates takes hours. With --kept FILE the script appends each form that a proof
+refuses to FILE, and doesn't try the forms that FILE has. So a later run goes on where an earlier
+one ended.
 """
 import argparse
 import concurrent.futures
@@ -61,6 +66,7 @@ ERROR = re.compile(
 LACKS = re.compile(r"(?:has no (?:field (?:named )?)?|unknown field )`([\w-]+)`")
 CASCADES = ("was not admitted", "has-holes")  # of what cites a refused declaration or a stand-in
 UNTRIED = "NOT TRIED"
+REFUSED = "refused by"
 ENDS = ("holes=", "only=", "logic=")
 
 
@@ -74,8 +80,8 @@ class Trial(NamedTuple):
 class Outcomes:
     """What is known of each form, for several threads."""
 
-    def __init__(self, forms: List[Form]):
-        self.forms, self.lock = forms, threading.Lock()
+    def __init__(self, forms: List[Form], kept: str = ""):
+        self.forms, self.kept, self.lock = forms, kept, threading.Lock()
         self.settled: Dict[Form, str] = {}
         self.called: Set[Form] = set()  # forms of functions that some function calls
         self.untried: Dict[Form, str] = {}  # forms that could not be tried somewhere, and why
@@ -87,11 +93,30 @@ class Outcomes:
                 if form not in self.settled:
                     self.settled[form] = outcome
                     tell_of(form, outcome)
+                    if self.kept and outcome.startswith(REFUSED):
+                        keep(self.kept, form, outcome)
 
     def left(self, forms: List[Form]) -> List[Form]:
         """Returns those of some forms that nothing has refused."""
         with self.lock:
             return [it for it in forms if it not in self.settled]
+
+
+def keep(path: str, form: Form, outcome: str) -> None:
+    """Appends what refuses a form to a file."""
+    with open(path, "a", encoding="utf-8") as it:
+        it.write("\t".join([*name_of(form), outcome]) + "\n")
+
+
+def kept_in(path: str) -> Set[Key]:
+    """Returns the names of the forms of a file, which may be missing."""
+    lines = read(path).splitlines() if os.path.isfile(path) else []
+    return {(it[0], it[1], it[2]) for it in (line.split("\t") for line in lines) if len(it) == 4}
+
+
+def name_of(form: Form) -> Key:
+    """Returns a form's crate, file and title."""
+    return form.crate, form.path, " ".join(form.title().split())
 
 
 def tell_of(form: Form, outcome: str) -> None:
@@ -455,9 +480,11 @@ class Work:
                 self.busy.discard(name)
 
 
-def tries(room: Room, names: List[str], forms: List[Form], checks: int) -> Dict[Form, str]:
+def tries(
+    room: Room, names: List[str], forms: List[Form], checks: int, kept: str
+) -> Dict[Form, str]:
     """Prints the outcome of each form, and returns it."""
-    outcomes = Outcomes(forms)
+    outcomes = Outcomes(forms, kept)
     work = Work(room, names, outcomes)
     with concurrent.futures.ThreadPoolExecutor(checks) as threads:
         for it in [threads.submit(work.goes_on) for _ in range(checks)]:
@@ -477,6 +504,7 @@ def main() -> int:
     words.add_argument("words", metavar="WORD", nargs="*", help="chooses forms")
     words.add_argument("--checked", metavar="DIR", help="a checkout that `rt ci` proved")
     words.add_argument("--room", metavar="DIR", default=ROOM, help="the copy")
+    words.add_argument("--kept", metavar="FILE", default="", help="what earlier runs refused")
     words.add_argument("--checks", type=int, default=1, help="that go on at a time (1)")
     words.add_argument("--jobs", type=int, default=1, help="of each check (1)")
     words.add_argument("--list", action="store_true", help="prints the forms and tries none")
@@ -491,10 +519,12 @@ def main() -> int:
     forms = [form for name in names for form in room.crates[name].forms()]
     if given.words:
         forms = [it for it in forms if any(word in it.title() for word in given.words)]
+    earlier = kept_in(given.kept)
+    forms = [it for it in forms if name_of(it) not in earlier]
     if given.list:
         print("\n".join(it.title() for it in forms))
         return 0
-    found = tries(room, names, forms, given.checks)
+    found = tries(room, names, forms, given.checks, given.kept)
     return int(any("NOT" in it for it in found.values()))
 
 

@@ -1,5 +1,6 @@
 """What scripts/weaken.py makes of public clauses and of records, what it tries together, and how it reads a check."""
 import contextlib
+import io
 import pathlib
 import sys
 import tempfile
@@ -160,6 +161,18 @@ def read_check():
         return {it.name: (callers.refuses(it, CHECK), callers.is_missed(it, CHECK)) for it in callers.functions}
 
 
+def kept_forms():
+    """Which forms a later run leaves out, if one was refused and one was not."""
+    with room() as made, tempfile.TemporaryDirectory() as top:
+        first, second = made.crates['low'].forms()[:2]
+        file = f'{top}/kept'
+        before = weaken.kept_in(file)
+        outcomes = weaken.Outcomes([first, second], file)
+        with contextlib.redirect_stdout(io.StringIO()):
+            outcomes.settle({first: 'refused by high::one', second: 'REFUSED BY NOTHING'})
+        return before, weaken.kept_in(file) == {weaken.name_of(first)}
+
+
 ROUNDS = [
     ['sizes on Few::size.most: nothing', 'one on twice: nothing'],
     ['both on Few::size.most: nothing'],
@@ -192,5 +205,6 @@ def check(_program):
     yield 'a literal with a field less', lambda: same(weaker_forms.without_field(LITERAL, ['first', 'second'], 'first'), without)
     ends = [(it.body, it.last) for it in weaker_forms.functions_of('src/pair.rt', BROKEN)]
     yield 'a clause with a line that ends as a head does', lambda: same(ends, [(7, 9)])
+    yield 'a refused form is kept, any other is not', lambda: same(kept_forms(), (set(), True))
     yield 'what is tried together', lambda: same(rounds_of_two_crates(), ROUNDS)
     yield 'what a check says of each function', lambda: same(read_check(), READ)
