@@ -101,7 +101,7 @@ class Crate:
         """Returns the functions that can be checked alone."""
         found = [it for each in self.functions.values() for it in each]
         alone = [it for it in found if module_of(it.path) or not it.is_of_trait]
-        return [it for it in alone if not it.holder or it.holder in self.homes]
+        return [it for it in alone if it.is_of_trait or not it.holder or it.holder in self.homes]
 
     def place(self, it: Function) -> List[str]:
         """Returns the names of the modules and the type that a function is in, and its own."""

@@ -20,8 +20,8 @@ class Names(NamedTuple):
 
 def names_in(text: str) -> Names:
     """Returns the names in a text."""
-    members = re.findall(r"(?:\.|::)(\w+)", text)
-    return Names(set(members), set(re.findall(r"(?<![.\w])\w+", text)))
+    members = re.findall(r"(?:(?<!\.)\.|::)(\w+)", text)
+    return Names(set(members), set(re.findall(r"(?:(?<![.\w])|(?<=\.\.))\w+", text)))
 
 
 class Function(NamedTuple):

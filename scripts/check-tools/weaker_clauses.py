@@ -206,5 +206,8 @@ def check(_program):
     ends = [(it.body, it.last) for it in weaker_forms.functions_of('src/pair.rt', BROKEN)]
     yield 'a clause with a line that ends as a head does', lambda: same(ends, [(7, 9)])
     yield 'a refused form is kept, any other is not', lambda: same(kept_forms(), (set(), True))
+    names = weaker_forms.names_in('for i in 0..count(a.b, T::new()) {')
+    wanted = ({'b', 'new'}, {'for', 'i', 'in', '0', 'count', 'a', 'T', 'new'})
+    yield 'the names of a range, a field and a path', lambda: same((names.members, names.plain), wanted)
     yield 'what is tried together', lambda: same(rounds_of_two_crates(), ROUNDS)
     yield 'what a check says of each function', lambda: same(read_check(), READ)
