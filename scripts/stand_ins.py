@@ -12,7 +12,7 @@ from typing import Any, Dict, Iterator, List, Optional, Set
 
 import build
 import weaker_forms
-from weaker_forms import Form, Function
+from weaker_forms import Form, Function, Record
 
 # Outside the checkout, where `rt ci` refuses a second crates.txt.
 ROOM = f"{tempfile.gettempdir()}/btest-weaken{build.TOP.replace('/', '-')}"
@@ -69,11 +69,22 @@ class Crate:
         self.texts = {path: read(f"{folder}/{path}") for path in self.files()}
         self.functions: Dict[str, List[Function]] = {}
         self.homes: Dict[str, str] = {}  # of each type, the module that declares it
+        self.records: List[Record] = []
         for path, text in self.texts.items():
             if path.startswith("src/"):
                 self.functions[path] = list(weaker_forms.functions_of(path, text))
                 for it in weaker_forms.TYPE.finditer(text):
                     self.homes[it[1]] = module_of(path)
+            else:
+                self.records += weaker_forms.records_of(text)
+
+    def mentions(self) -> Dict[str, Set[str]]:
+        """Returns of each type and definition with a capital letter which others it mentions."""
+        found: Dict[str, Set[str]] = {}
+        for text in self.texts.values():
+            for name, lines in weaker_forms.declarations(text):
+                found.setdefault(name, set()).update(weaker_forms.CAPITALS.findall(lines))
+        return found
 
     def files(self) -> Iterator[str]:
         """Returns the files that a check reads."""

@@ -1,6 +1,6 @@
 """The weaker forms of the clauses of functions, and records without a field."""
 import re
-from typing import Iterator, List, NamedTuple, Set, Tuple
+from typing import Dict, FrozenSet, Iterator, List, NamedTuple, Set, Tuple
 
 FUNCTION = re.compile(r"( *)(pub(?:\(\w+\))? )?(?:unsafe )?fn (\w+)")
 CLAUSE = re.compile(r" *(requires|ensures|ghost)\b\*? ?(\w*)")
@@ -9,6 +9,12 @@ TRAIT_OF = re.compile(r"impl(?:<.*>)? .* for (?:\w+::)*(\w+)")
 TYPE = re.compile(r"^(?:pub(?:\(\w+\))? )?(?:struct|enum) (\w+)", re.MULTILINE)
 RECORD = re.compile(r"pub record (\w+)")
 FIELD = re.compile(r"  pub (\w+) :")
+CAPITALS = re.compile(r"\b[A-Z]\w*")
+DECLARED = re.compile(
+    r"^(?:(?:pub(?:\(\w+\))?|abbrev|unfoldable|record|data|struct|enum) )*([A-Z]\w*)"
+)
+ANY_RECORD = re.compile(r"(?:pub )?record (\w+)")
+ANY_FIELD = re.compile(r"  (?:pub )?(\w+) :")
 
 
 class Names(NamedTuple):
@@ -165,15 +171,14 @@ def forms_of_functions(crate: str, path: str, text: str) -> Iterator[Form]:
 def with_bodies(text: str, functions: List[Function], forms: List[Form], real: Set[str]) -> str:
     """Returns a file in which only some functions keep their bodies, and some state less."""
     lines = text.split("\n")
-    weak = {form.owner: form for form in forms}
     for it in reversed(functions):
-        form = weak.get(it.title())
+        weak = {form.number: form.left for form in forms if form.owner == it.title()}
         if not it.is_of_trait and it.title() not in real and it.body < it.last:
             indent = lines[it.last][:-1]
             lines[it.body + 1 : it.last] = [f"{indent}    loop {{}}"]
-        if form and it.is_public:
+        if weak and it.is_public:
             start = it.body - sum(map(len, it.clauses))
-            kept = it.clauses[: form.number] + (form.left,) + it.clauses[form.number + 1 :]
+            kept = [weak.get(number, clause) for number, clause in enumerate(it.clauses)]
             lines[start : it.body] = [line for clause in kept for line in clause]
     return "\n".join(lines)
 
@@ -206,14 +211,99 @@ def without_line(text: str, form: Form) -> str:
     return text
 
 
-def fields_of(text: str, record: str) -> List[str]:
-    """Returns the fields of a record, by the text of its file."""
-    return [field for owner, field, _, _ in fields(text) if owner == record]
+def declarations(text: str) -> Iterator[Tuple[str, str]]:
+    """Returns what a file declares under names with a capital letter, with the lines of each."""
+    heads = [it for it in re.finditer(r"^[^\s\-})/#].*", text, re.MULTILINE)]
+    ends = [it.start() for it in heads[1:]] + [len(text)]
+    for it, end in zip(heads, ends):
+        name = DECLARED.match(it[0])
+        if name:
+            yield name[1], text[it.start() : end]
 
 
-def without_field(text: str, names: List[str], field: str) -> str:
-    """Returns the text with the field taken out of each literal that gives fields of the record."""
-    for at in reversed([it.end() for it in re.finditer(r"record \{", text)]):
+def with_names(text: str, names: Set[str], end: str, right: Set[Tuple[str, str]]) -> str:
+    """Returns a file in which some names have another end wherever they stand after a dot.
+
+    `right` are names that stay as they are in a declaration, whose name comes first.
+    """
+    word = re.compile(rf"(?<=[\w)\]}}])\.({'|'.join(sorted(names))})(?![\w-])")
+    lines, now = text.split("\n"), ""
+    for at, line in enumerate(lines):
+        now = declared([line]) if is_head(line) else now
+        if not line.startswith(("use ", "pub use ")):
+            lines[at] = word.sub(lambda it: it[0] + end * ((now, it[1]) not in right), line)
+    return "\n".join(lines)
+
+
+def declared(lines: List[str]) -> str:
+    """Returns the name of the last declaration that begins in these lines of a file."""
+    heads = [it for it in lines if is_head(it)]
+    words = re.sub(r"^(pub |abbrev |unfoldable |record )*", "", heads[-1]) if heads else ""
+    return words.split(" ")[0]
+
+
+def is_head(line: str) -> bool:
+    """Returns whether a declaration begins at a line of a file."""
+    return line[:1] not in ("", " ", "-", "/", "#", "}", ")")
+
+
+class Record(NamedTuple):
+    """A record, and the names of all its fields."""
+
+    name: str
+    fields: FrozenSet[str]
+
+
+Literals = Dict[FrozenSet[str], List[Record]]  # of the fields that a literal gives, which records
+
+
+def records_of(text: str) -> Iterator[Record]:
+    """Returns the records that a file of specs/ or proofs/ declares."""
+    name, names = "", set()
+    for line in [*text.split("\n"), "end"]:
+        field = ANY_FIELD.match(line)
+        if name and field:
+            names.add(field[1])
+        elif line[:1] not in ("", " "):
+            if name:
+                yield Record(name, frozenset(names))
+            head = ANY_RECORD.match(line)
+            name, names = head[1] if head else "", set()
+
+
+def needing(text: str, form: Form) -> str:
+    """Returns a later field of the record whose type names the form's field, or an empty text."""
+    lines = text.split("\n")
+    word = rf"(?<![\w.-]){re.escape(form.clause)}(?![\w-])"
+    for record, field, at, end in fields(text):
+        if record == form.owner and at > form.number:
+            said = re.sub(r"--.*", "", " ".join(lines[at:end])).split(":", 1)[1]
+            is_bound = re.search(rf"[(λ][\w\s-]*{word}[\w\s-]*[:.]", said)
+            if re.search(word, said) and not is_bound:
+                return field
+    return ""
+
+
+def without_fields(text: str, gone: Dict[Record, Set[str]], literals: Literals) -> str:
+    """Returns the text with some fields of records taken out of each literal of such a record.
+
+    A literal is of the record that has just the fields that it gives. If several have, it is of
+    those that the text names.
+    """
+    kept, start = "", 0
+    for first, last, names, name in parts_of_literals(text):
+        same = literals.get(names, [])
+        named = [it for it in same if len(same) == 1 or re.search(rf"\b{it.name}\b", text)]
+        if first >= start and any(name in gone.get(it, ()) for it in named):
+            kept += text[start:first]
+            start = last
+    return kept + text[start:]
+
+
+def parts_of_literals(text: str) -> List[Tuple[int, int, FrozenSet[str], str]]:
+    """Returns the place of each field in a literal, with all names of the literal and its own."""
+    found = []
+    for at in [it.end() for it in re.finditer(r"record \{", text)]:
         ends = [0]
         for place, it, depth in depths(text[at:]):
             if depth < 0:
@@ -221,10 +311,8 @@ def without_field(text: str, names: List[str], field: str) -> str:
                 break
             if it == ";" and depth == 0:
                 ends.append(place + 1)
-        parts = [text[at + a : at + b] for a, b in zip(ends, ends[1:])]
-        found = [it.split("=")[0].strip() for it in parts]
-        given = [it for it in found if it]
-        if field in given and set(given) <= set(names):
-            kept = "".join(it for it, name in zip(parts, found) if name != field)
-            text = text[:at] + kept + text[at + ends[-1] :]
-    return text
+        places = [(at + a, at + b) for a, b in zip(ends, ends[1:])]
+        names = [text[a:b].split("=")[0].strip() for a, b in places]
+        given = frozenset(it for it in names if it)
+        found += [(a, b, given, name) for (a, b), name in zip(places, names) if name]
+    return sorted(found, key=lambda it: it[:2])

@@ -8,9 +8,11 @@ import tempfile
 from cases import TOOLS, same
 
 sys.path.insert(0, str(TOOLS.parent / 'scripts'))
-import stand_ins      # noqa: E402
-import weaken         # noqa: E402
-import weaker_forms   # noqa: E402
+import stand_ins        # noqa: E402
+import weaken_calls     # noqa: E402
+import weaken_fields    # noqa: E402
+import weaken_readers   # noqa: E402
+import weaker_forms     # noqa: E402
 
 SOURCE = """impl<'a> Pair<'a> {
     /// Returns whether the two meet.
@@ -67,7 +69,18 @@ pub record IsPair (a b : ℕ) : Type 0 where
 pub record Other : Type 0 where
   pub first : ℕ
 """
-LITERAL = 'f c = record { first = g (record { first = 1; third = 2 }); second = c.second }\n'
+NEEDED = """pub record IsCut (text : List ℕ) : Type 0 where
+  pub front : List ℕ
+  pub back : List ℕ -- front
+  pub whole : text ≡ front ++ back
+  pub each : (back : ℕ) → back ≡ back
+"""
+LITERALS = """f : IsPair → Other
+f c = record { first = g (record { first = 1; third = 2 }); second = c.second }
+g c = record {
+    first = record { first = 0; second = 1 };
+  }
+"""
 LOW = """pub struct Few {
     size: usize,
 }
@@ -118,12 +131,37 @@ BROKEN = """pub fn of(
 """
 CHECK = """src/lib.rt:3:1: warning: unused
 ./proofs/other/Proof.antt:3:5: `other_spec` is not admitted: has-holes
-proofs/one/Answers.antt:4:8: error: `c` has no field `ensures`
+proofs/one/Answers.antt:2:8: error: `returns`: expected type `c.k ≡ 2`, but this has type `Unit {0}`
+proofs/sizes/Answers.antt:4:8: error: `second`: `record {least : ..}` has no field `most`
+proofs/both/Answers.antt:1:8: error: 1 declaration that depends on `first` was not checked
 fn high::both: no holes
 fn high::one: not proved
 fn high::sizes: could not tell
 only=3 holes=0
 """
+ANSWERS = {
+    'one': 'pub returns : goal.returns\nreturns c = sym c.in-twice.ensures\n\nother c = c.of\n',
+    'sizes': 'first c = c.size.ensures.least\n\n-- the second\nsecond c = c.size.ensures.most\n',
+}
+LEMMAS = """f : Other → ℕ
+f c = c.first_misnamed + (g c).second_misnamed
+
+g : ℕ
+g = h.second_misnamed
+
+h : ℕ
+h = f.k
+"""
+FIELDS_CHECK = """proofs/B.antt:2:7: error: `f`: record `Rattle.high.specs.A.Other` has no field `first_misnamed`
+proofs/B.antt:5:1: error: `g`: expected another type
+proofs/B.antt:7:1: error: 1 declaration that depends on `f`, which was rejected, was not checked
+holes=2
+"""
+# The names of `f` that the error doesn't have are tried once more, those of `g` are not.
+FIELDS_READ = (
+    {'Other.first: nothing': 'refused by high/proofs/B.antt f'},
+    [('proofs/B.antt', 'f', 'first'), ('proofs/B.antt', 'g', 'second')],
+)
 
 
 @contextlib.contextmanager
@@ -143,22 +181,45 @@ def room():
             stand_ins.TOPS, stand_ins.printed = tops, kit
 
 
-def rounds_of_two_crates():
-    """Which functions are tried on which forms, round by round, if nothing refuses a form."""
+def rounds_of_two_crates(refusing):
+    """Which functions are tried on which forms, round by round, if some say that they aren't proved."""
     with room() as made:
-        callers = weaken.Callers(made, 'high', weaken.Outcomes(made.crates['low'].forms()))
-        found = []
-        while trials := callers.round(set()):
-            callers.tried |= set(trials)
-            found.append([f'{it.witness.name} on {it.form.title()}' for it in trials])
+        callers = weaken_calls.Callers(made, 'high', weaken_readers.Outcomes(made.crates['low'].forms()))
+        found, unsure = [], {}
+        while trials := callers.round(set(unsure)):
+            found.append([f'{it.witness.name} on {[form.title() for form in it.forms]}' for it in trials])
+            for it in trials:
+                callers.notes(it, 'refused by it' if it.witness.name in refusing else '', {}, unsure)
     return found
 
 
 def read_check():
     """What is read from the lines of a check."""
     with room() as made:
-        callers = weaken.Callers(made, 'high', weaken.Outcomes(made.crates['low'].forms()))
-        return {it.name: (callers.refuses(it, CHECK), callers.is_missed(it, CHECK)) for it in callers.functions}
+        forms = made.crates['low'].forms()
+        callers = weaken_calls.Callers(made, 'high', weaken_readers.Outcomes(forms))
+        folder = pathlib.Path(made.top) / 'high' / 'crates' / 'high' / 'proofs'
+        for name, text in ANSWERS.items():
+            (folder / name).mkdir(parents=True)
+            (folder / name / 'Answers.antt').write_text(text, encoding='utf-8')
+        found = {}
+        for it in callers.functions:
+            tried = tuple(form for form in forms if form.key() in callers.needs[it])
+            missed = callers.misses(weaken_calls.Trial(tried, it), CHECK) if tried else {}
+            found[it.name] = (callers.refuses(it, CHECK), {form.title(): who for form, who in missed.items()})
+        return found
+
+
+def read_fields():
+    """What is read from a check with wrong names of fields, and which names are right after it."""
+    with room() as made:
+        forms = list(weaker_forms.forms_of_records('high', 'specs/A.antt', RECORD))
+        namers = weaken_fields.Namers(made, 'high', weaken_readers.Outcomes(forms))
+        folder = pathlib.Path(made.top) / 'high' / 'crates' / 'high' / 'proofs'
+        folder.mkdir(parents=True)
+        (folder / 'B.antt').write_text(LEMMAS, encoding='utf-8')
+        found = namers.reads(forms, FIELDS_CHECK)
+        return {it.title(): who for it, who in found.items()}, sorted(namers.right)
 
 
 def kept_forms():
@@ -166,28 +227,33 @@ def kept_forms():
     with room() as made, tempfile.TemporaryDirectory() as top:
         first, second = made.crates['low'].forms()[:2]
         file = f'{top}/kept'
-        before = weaken.kept_in(file)
-        outcomes = weaken.Outcomes([first, second], file)
+        before = weaken_readers.kept_in(file)
+        outcomes = weaken_readers.Outcomes([first, second], file)
         with contextlib.redirect_stdout(io.StringIO()):
             outcomes.settle({first: 'refused by high::one', second: 'REFUSED BY NOTHING'})
-        return before, weaken.kept_in(file) == {weaken.name_of(first)}
+        return before, weaken_readers.kept_in(file) == {weaken_readers.name_of(first)}
 
 
-ROUNDS = [
-    ['sizes on Few::size.most: nothing', 'one on twice: nothing'],
-    ['both on Few::size.most: nothing'],
-    ['sizes on Few::size.least: nothing'],
-    ['both on Few::size.least: nothing'],
-    ['both on twice: nothing'],
+SIZES = ["sizes on ['Few::size.most: nothing', 'Few::size.least: nothing']"]
+BOTH = "both on ['Few::size.most: nothing', 'Few::size.least: nothing']"
+ONE = "one on ['twice: nothing']"
+# If all are proved, no function of a round calls two of the weaker ones.
+ROUNDS = [SIZES + [ONE], [BOTH], ["both on ['twice: nothing']"]]
+# If one is not, it is tried over each clause alone.
+ROUNDS_OF_ONE = [
+    SIZES + [ONE],
+    ["sizes on ['Few::size.most: nothing']"],
+    ["sizes on ['Few::size.least: nothing']"],
+    ["both on ['twice: nothing']"],
 ]
 READ = {
-    'both': ('', False),
-    'one': ('refused by high::one', True),
-    'other': ('NOT TRIED by high::other: proofs/one/Answers.antt:4:8: error: `c` has no field `ensures`', False),
-    'sizes': ('refused by high::sizes, at a limit of the prover', False),
+    'both': ('', {}),
+    'one': ('refused by high::one', {'twice: nothing': 'refused by high/proofs/one/Answers.antt returns'}),
+    'other': ("NOT TRIED by high::other: proofs/one/Answers.antt:2:8: error: `returns`: expected type `c.k ≡ 2`, "
+              "but this has type `Unit {0}`", {}),
+    'sizes': ('refused by high::sizes, at a limit of the prover',
+              {'Few::size.most: nothing': 'refused by high/proofs/sizes/Answers.antt second'}),
 }
-
-
 def check(_program):
     functions = list(weaker_forms.functions_of('src/a.rt', SOURCE))
     forms = list(weaker_forms.forms_of_functions('high', 'src/a.rt', SOURCE))
@@ -201,13 +267,29 @@ def check(_program):
     yield 'the fields of records', lambda: same([it.title() for it in fields], titles)
     left = RECORD.replace('  pub second : (k : ℕ) →\n    k ≡ b\n', '')
     yield 'a record with a field less', lambda: same(weaker_forms.without_line(RECORD, fields[1]), left)
-    without = LITERAL.replace(' first = g (record { first = 1; third = 2 });', '')
-    yield 'a literal with a field less', lambda: same(weaker_forms.without_field(LITERAL, ['first', 'second'], 'first'), without)
+    records = list(weaker_forms.records_of(RECORD))
+    names = [(it.name, sorted(it.fields)) for it in records]
+    yield 'the records of a file', lambda: same(names, [('IsPair', ['first', 'second']), ('Other', ['first'])])
+    literals = {it.fields: [it] for it in records}
+    less = LITERALS.replace(' second = c.second }', '}').replace(' second = 1 }', '}')
+    gone = {records[0]: {'second'}}
+    yield 'literals with a field less', lambda: same(weaker_forms.without_fields(LITERALS, gone, literals), less)
+    twins = {frozenset(['first', 'second']): [weaker_forms.Record('Twin', records[0].fields), records[0]]}
+    twin = {twins[frozenset(['first', 'second'])][0]: {'second'}}
+    yield 'a literal of another record that the text names', lambda: same(weaker_forms.without_fields(LITERALS, twin, twins), LITERALS)
+    needed = [weaker_forms.needing(NEEDED, it) for it in weaker_forms.forms_of_records('high', 'specs/A.antt', NEEDED)]
+    yield 'fields that a later field names', lambda: same(needed, ['whole', 'whole', '', ''])
+    wrong = weaker_forms.with_names(LEMMAS.replace('_misnamed', ''), {'first', 'second'}, '_misnamed', {('k', 'first')})
+    yield 'wrong names of fields', lambda: same(wrong, LEMMAS)
+    partly = weaker_forms.with_names(LEMMAS.replace('_misnamed', ''), {'first', 'second'}, '_misnamed', {('f', 'first')})
+    yield 'wrong names but one', lambda: same(partly, LEMMAS.replace('first_misnamed', 'first'))
+    yield 'what a check says of wrong names', lambda: same(read_fields(), FIELDS_READ)
     ends = [(it.body, it.last) for it in weaker_forms.functions_of('src/pair.rt', BROKEN)]
     yield 'a clause with a line that ends as a head does', lambda: same(ends, [(7, 9)])
     yield 'a refused form is kept, any other is not', lambda: same(kept_forms(), (set(), True))
     names = weaker_forms.names_in('for i in 0..count(a.b, T::new()) {')
     wanted = ({'b', 'new'}, {'for', 'i', 'in', '0', 'count', 'a', 'T', 'new'})
     yield 'the names of a range, a field and a path', lambda: same((names.members, names.plain), wanted)
-    yield 'what is tried together', lambda: same(rounds_of_two_crates(), ROUNDS)
+    yield 'what is tried together', lambda: same(rounds_of_two_crates(set()), ROUNDS)
+    yield 'what is tried after a refusal', lambda: same(rounds_of_two_crates({'sizes'}), ROUNDS_OF_ONE)
     yield 'what a check says of each function', lambda: same(read_check(), READ)

@@ -1,0 +1,263 @@
+"""Asks crates what their functions say to weaker forms of functions that they call."""
+import re
+import time
+from typing import Dict, List, NamedTuple, Optional, Set, Tuple
+
+import weaker_forms
+from stand_ins import Room
+from weaken_readers import (
+    CASCADES,
+    ERROR,
+    FAILED,
+    UNTRIED,
+    VERDICT,
+    Key,
+    Outcomes,
+    Reader,
+    first_error,
+)
+from weaker_forms import Form, Function
+
+LACKS = re.compile(r"(?:has no (?:field (?:named )?)?|unknown field )`([\w-]+)`")
+CITED = re.compile(r"\.([\w-]+)\.ensures(?:\.(\w+))?")
+WORD = re.compile(r"[A-Za-z_]\w\w+")
+COMMON = {"result", "self", "now", "new", "old", "entry", "exit", "length", "ensures", "IsTrue"}
+UNSURE = 40  # outcomes that are made sure of together
+
+
+class Trial(NamedTuple):
+    """Forms of one function, which are tried together, and a function that may refuse them."""
+
+    forms: Tuple[Form, ...]
+    witness: Function
+
+    def key(self) -> Key:
+        """Returns what the forms belong to."""
+        return self.forms[0].key()
+
+
+class Witnesses(Reader):
+    """Functions of a crate that may refuse forms.
+
+    A witness that calls another one would fail with it, so no witness of a round does.
+
+    At first a witness is tried over all clauses of a function, or all fields of a record, that
+    nothing has refused. If it is proved without them, it refuses none. If not, and it doesn't say
+    which one it misses, it is tried over each of them alone.
+    """
+
+    def __init__(self, room: Room, name: str, outcomes: Outcomes, is_field: bool):
+        super().__init__(room, name, outcomes, is_field)
+        self.proofs = {it: self.crate.proof(it) for it in self.functions}
+        self.names = {it: weaker_forms.names_in(self.crate.body(it)) for it in self.functions}
+        self.inner: Dict[Function, Set[Function]] = {}  # which functions of the crate each calls
+        for it in self.functions:
+            named = [one for one in self.functions if one.is_called_in(self.names[it])]
+            self.inner[it] = set(named) - {it}
+        self.needs: Dict[Function, Set[Key]] = {}  # what each may need that is weakened
+        self.of: Dict[Form, List[Function]] = {}  # who may need what a form weakens
+        self.tried = outcomes.tried.setdefault(name, set())
+        self.apart: Set[Tuple[Key, Function]] = set()  # whose forms a witness is tried on alone
+        self.unfit: Set[Function] = set()  # functions that aren't proved over stand-ins
+        self.most: Optional[int] = None  # witnesses of a form that are tried, if not all
+
+    def check(self, forms: List[Form], real: List[Function]) -> str:
+        """Checks functions of the crate, which are no stand-ins."""
+        raise NotImplementedError
+
+    def cited(self, witness: Function, text: str, forms: List[Form]) -> List[Form]:
+        """Returns those of some forms that a text of a witness's proof cites."""
+        raise NotImplementedError
+
+    def key(self, it: Function) -> Key:
+        """Returns what a form of a function of this crate belongs to."""
+        return self.crate.name, it.path, it.title()
+
+    def round(self, refused: Set[Form]) -> List[Trial]:
+        """Returns what can be tried together: no witness may need two of the weakened things."""
+        found: List[Trial] = []
+        weak: Set[Key] = set()
+        called: Set[Key] = set()
+        left = self.outcomes.left([it for it in self.forms if it not in refused])
+        for form in left:
+            keys = {self.key(it.witness) for it in found}
+            if form.key() in weak | called | keys:
+                continue
+            for it in self.of[form][: self.most]:
+                trial = self.trial(form, it, left)
+                if self.fits(trial, form, [one.witness for one in found], weak):
+                    found.append(trial)
+                    weak.add(form.key())
+                    called |= self.needs[it]
+                    break
+        return found
+
+    def trial(self, form: Form, witness: Function, left: List[Form]) -> Trial:
+        """Returns a form with those of the same function or record that the witness is tried on."""
+        same = [it for it in left if it.key() == form.key() and it.label == "nothing"]
+        fresh = [it for it in same if (it, witness) not in self.tried]
+        is_apart = form not in fresh or (form.key(), witness) in self.apart
+        return Trial((form,) if is_apart else tuple(fresh), witness)
+
+    def fits(self, trial: Trial, form: Form, real: List[Function], weak: Set[Key]) -> bool:
+        """Returns whether a trial can be made beside others, and is still to be made."""
+        it = trial.witness
+        is_apart = not any(
+            it == one or it in self.inner[one] or one in self.inner[it] for one in real
+        )
+        is_new = (form, it) not in self.tried and it not in self.unfit
+        return is_apart and is_new and not weak & (self.needs[it] | {self.key(it)})
+
+    def refuses(self, witness: Function, text: str) -> str:
+        """Returns how a check refused a function, or an empty text."""
+        own = self.crate.name_in_lines(witness)
+        verdicts = [it[2] for it in VERDICT.finditer(text) if own.fullmatch(it[1])]
+        failed = [it for it in verdicts if it.startswith(FAILED)]
+        name = "::".join([self.crate.name, *self.crate.place(witness)])
+        limit = ", at a limit of the prover" if all(it == FAILED[2] for it in failed) else ""
+        if not verdicts:
+            return f"{UNTRIED} by {name}: {first_error(text)}"
+        return f"refused by {name}{limit}" if failed else ""
+
+    def misses(self, trial: Trial, text: str) -> Dict[Form, str]:
+        """Returns the forms that declarations of a witness's proof miss, and which one does.
+
+        The error of such a declaration names a clause, or it cites the only one that is tried.
+        """
+        folder = f"proofs/{'/'.join(self.crate.place(trial.witness))}/"
+        found: Dict[Form, str] = {}
+        for it in ERROR.finditer(text):
+            if it[1].startswith(folder) and not any(word in it[3] for word in CASCADES):
+                name, lines = self.declaration(it[1], int(it[2]))
+                lacks = LACKS.search(it[3])
+                named = [form for form in trial.forms if lacks and form.clause == lacks[1]]
+                cited = self.cited(trial.witness, lines, list(trial.forms))
+                for form in named or (cited if len(cited) == 1 and "Unit" in it[3] else []):
+                    found[form] = f"refused by {self.crate.name}/{it[1]} {name}"
+        return found
+
+    def tries(self, trials: List[Trial]) -> Dict[Trial, Tuple[str, Dict[Form, str]]]:
+        """Returns how each witness refused its forms, and which ones its proof misses.
+
+        If a check says nothing of its functions, each witness is tried alone.
+        """
+        text = self.check(
+            [form for it in trials for form in it.forms], [it.witness for it in trials]
+        )
+        found = {it: self.refuses(it.witness, text) for it in trials}
+        if len(trials) > 1 and all(it.startswith(UNTRIED) for it in found.values()):
+            return {it: how for one in trials for it, how in self.tries([one]).items()}
+        return {it: (how, self.misses(it, text)) for it, how in found.items()}
+
+    def settles(self, most: Optional[int] = None) -> None:
+        """Tries all forms that a function here can refuse, or so many witnesses of each."""
+        self.most = most
+        while self.settles_some():
+            pass
+
+    def settles_some(self) -> bool:
+        """Tries forms until many are to be made sure of. Returns whether any may be left."""
+        unsure: Dict[Form, Tuple[Function, str]] = {}
+        while trials := self.round(set(unsure)) if len(unsure) < UNSURE else []:
+            since = time.monotonic()
+            for it, (how, sure) in self.tries(trials).items():
+                self.outcomes.settle(self.with_less(sure))
+                self.notes(it, how, sure, unsure)
+            refused = [it for trial in trials for it in trial.forms if it in unsure]
+            left = self.outcomes.left([it for trial in trials for it in trial.forms])
+            tried = sum(len(it.forms) for it in trials)
+            self.tells(tried, len(refused) + tried - len(left), since)
+        return bool(unsure and (self.makes_sure(unsure) or len(unsure) >= UNSURE))
+
+    def notes(
+        self,
+        trial: Trial,
+        how: str,
+        sure: Dict[Form, str],
+        unsure: Dict[Form, Tuple[Function, str]],
+    ) -> None:
+        """Notes what a trial has shown, but for the forms that it settled."""
+        is_one = len(trial.forms) == 1
+        if not how:
+            numbers = {(it.key(), it.number) for it in trial.forms if it.label == "nothing"}
+            same = [it for it in self.forms if (it.key(), it.number) in numbers]
+            self.tried |= {(it, trial.witness) for it in (*trial.forms, *same)}
+        elif how.startswith(UNTRIED):
+            self.tried |= {(it, trial.witness) for it in trial.forms}
+            self.outcomes.untried.update({it: how for it in trial.forms})
+        elif is_one and trial.forms[0] not in sure:
+            self.tried.add((trial.forms[0], trial.witness))
+            unsure[trial.forms[0]] = trial.witness, how
+        elif not sure:
+            self.apart.add((trial.key(), trial.witness))
+
+    def makes_sure(self, unsure: Dict[Form, Tuple[Function, str]]) -> Set[Function]:
+        """Tries witnesses once more, with no form, and returns those that aren't proved either.
+
+        Such a witness failed for another reason than a form.
+        """
+        witnesses = sorted({it for it, _ in unsure.values()})
+        since = time.monotonic()
+        text = self.check([], witnesses)
+        unfit = {it for it in witnesses if self.refuses(it, text)}
+        self.tells(len(witnesses), len(unfit), since)
+        fit = {form: how for form, (it, how) in unsure.items() if it not in unfit}
+        self.outcomes.settle(self.with_less(fit))
+        for form, (it, _) in unsure.items():
+            if it in unfit:
+                why = "::".join([self.crate.name, *self.crate.place(it)])
+                self.outcomes.untried[form] = f"{UNTRIED} by {why}, which fails with no form either"
+        self.unfit |= unfit
+        return unfit
+
+    def with_less(self, found: Dict[Form, str]) -> Dict[Form, str]:
+        """Returns outcomes with those of the forms that say even less."""
+        less = {it: form for it in self.forms for form in found if it.says_less(form)}
+        return {**found, **{it: f"{found[form]}, as is more" for it, form in less.items()}}
+
+
+class Callers(Witnesses):
+    """What the functions of a crate say to weaker forms of functions that they call."""
+
+    def __init__(self, room: Room, name: str, outcomes: Outcomes):
+        super().__init__(room, name, outcomes, False)
+        owners = {it.key(): self.owner(it) for it in self.forms}
+        for it, names in self.names.items():
+            called = {key for key, one in owners.items() if one != it and one.is_called_in(names)}
+            self.needs[it] = called
+        self.words = {it: set(WORD.findall(self.crate.own_text(it))) for it in self.functions}
+        self.of = {it: self.witnesses(it) for it in self.forms}
+        outcomes.called |= {it for it, found in self.of.items() if found}
+
+    def check(self, forms: List[Form], real: List[Function]) -> str:
+        """Checks functions of the crate, which are no stand-ins."""
+        name, sources = self.crate.name, self.sources(self.forms)
+        for each in (*sources, name):
+            texts = self.room.crates[each].with_stand_ins(forms, real if each == name else [])
+            self.room.lays_out(name, each, texts)
+        only = sorted({self.crate.path_of(it) for it in real})
+        return self.room.check(name, sources, only)
+
+    def owner(self, form: Form) -> Function:
+        """Returns the function that a form weakens."""
+        functions = self.room.crates[form.crate].functions[form.path]
+        return next(it for it in functions if it.title() == form.owner and it.is_public)
+
+    def witnesses(self, form: Form) -> List[Function]:
+        """Returns the functions that call a form's function, the likeliest to refuse it first.
+
+        Those come first whose proofs cite the clause, then those that share names with it.
+        """
+        clause = self.owner(form).clauses[form.number]
+        words = set(WORD.findall(" ".join(clause))) - COMMON
+        found = [it for it in self.functions if form.key() in self.needs[it]]
+        cites = {it: form in self.cited(it, self.proofs[it], [form]) for it in found}
+        shared = {it: len(words & self.words[it]) for it in found}
+        return sorted(found, key=lambda it: (not cites[it], -shared[it], len(self.crate.body(it))))
+
+    def cited(self, witness: Function, text: str, forms: List[Form]) -> List[Form]:
+        """Returns those of some forms whose clause a text of a witness's proof cites."""
+        cites = {(word, it[2] or "") for it in CITED.finditer(text) for word in it[1].split("-")}
+        own = self.needs[witness]
+        name = {it: it.owner.split("::")[-1] for it in forms}
+        return [it for it in forms if it.key() in own and (name[it], it.clause) in cites]
