@@ -3,6 +3,7 @@
 A stand-in has the body `loop {}` and a hole as its proof. So a check of a function relies on the
 contracts of its callees. No library has to be proved and built again when a contract changes.
 """
+import functools
 import os
 import re
 import shutil
@@ -183,6 +184,17 @@ class Room:
         self.order = sorted(self.under, key=lambda name: (len(self.under[name]), name))
         self.crates = {it: Crate(it, f"{checked}/crates/{it}") for it in self.order}
         self.kit = os.path.dirname(printed(["rt", "doc"]).strip())
+
+    @functools.cached_property
+    def of_kit(self) -> Dict[str, Set[str]]:
+        """The names of the clauses of all functions of the kit with a name."""
+        found: Dict[str, Set[str]] = {}
+        for at, _, files in os.walk(f"{self.kit}/rlibs"):
+            for file in files:
+                if file.endswith(".rt"):
+                    for name, names in weaker_forms.clause_names(read(f"{at}/{file}")).items():
+                        found.setdefault(name, set()).update(names)
+        return found
 
     def finds_under(self, name: str) -> Set[str]:
         """Finds all crates of the program below a crate, and below each of these."""

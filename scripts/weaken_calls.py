@@ -19,7 +19,7 @@ from weaken_readers import (
 from weaker_forms import Form, Function
 
 LACKS = re.compile(r"(?:has no (?:field (?:named )?)?|unknown field )`([\w-]+)`")
-CITED = re.compile(r"\.([\w-]+)\.ensures(?:\.(\w+))?")
+CITED = re.compile(r"\bc\.([\w-]+)\.ensures\b(?:\.(\w+))?")
 WORD = re.compile(r"[A-Za-z_]\w\w+")
 COMMON = {"result", "self", "now", "new", "old", "entry", "exit", "length", "ensures", "IsTrue"}
 UNSURE = 40  # outcomes that are made sure of together
@@ -152,8 +152,12 @@ class Witnesses(Reader):
     def settles(self, most: Optional[int] = None) -> None:
         """Tries all forms that a function here can refuse, or so many witnesses of each."""
         self.most = most
+        self.settles_at_once()
         while self.settles_some():
             pass
+
+    def settles_at_once(self) -> None:
+        """Settles what needs no round."""
 
     def settles_some(self) -> bool:
         """Tries forms until many are to be made sure of. Returns whether any may be left."""
@@ -226,6 +230,7 @@ class Callers(Witnesses):
             called = {key for key, one in owners.items() if one != it and one.is_called_in(names)}
             self.needs[it] = called
         self.words = {it: set(WORD.findall(self.crate.own_text(it))) for it in self.functions}
+        self.below = [room.crates[it] for it in (name, *sorted(room.under[name]))]
         self.of = {it: self.witnesses(it) for it in self.forms}
         outcomes.called |= {it for it, found in self.of.items() if found}
 
@@ -242,6 +247,37 @@ class Callers(Witnesses):
         """Returns the function that a form weakens."""
         functions = self.room.crates[form.crate].functions[form.path]
         return next(it for it in functions if it.title() == form.owner and it.is_public)
+
+    def settles_at_once(self) -> None:
+        """Settles the forms that drop a clause which the proof of a caller cites.
+
+        A citation names a step, and so a function. It must be the only one of this name, here and
+        in the kit, that the caller may call and that has a clause of the name.
+        """
+        forms = {(it.key(), it.clause): it for it in self.forms if it.label == "nothing"}
+        found: Dict[Form, str] = {}
+        for caller in self.functions:
+            who = "::".join([self.crate.name, *self.crate.place(caller)])
+            for step, clause in set(CITED.findall(self.proofs[caller])):
+                for key in self.callees(caller, step.split("-"), clause):
+                    if (key, clause) in forms:
+                        found[forms[key, clause]] = f"refused by {who}, which cites c.{step}"
+        self.outcomes.settle(found)
+
+    def callees(self, caller: Function, words: List[str], clause: str) -> List[Key]:
+        """Returns the function that a step with these words calls, if only one can be meant."""
+        names = self.names[caller]
+        called = [it for it in words if it in names.members | names.plain]
+        found: List[Key] = []
+        for each in self.below:
+            for functions in each.functions.values():
+                for it in [it for it in functions if it.name in called]:
+                    ensured = it.ensured()
+                    is_meant = clause in ensured and (clause or len(ensured) == 1)
+                    if is_meant and it.is_called_in(names) and it != caller:
+                        found.append((each.name, it.path, it.title()))
+        of_kit = any(clause in self.room.of_kit.get(it, ()) for it in called)
+        return found if len(found) == 1 and not of_kit else []
 
     def witnesses(self, form: Form) -> List[Function]:
         """Returns the functions that call a form's function, the likeliest to refuse it first.

@@ -47,6 +47,11 @@ class Function(NamedTuple):
         """Returns the name, with the type of a method."""
         return f"{self.holder}::{self.name}" if self.holder else self.name
 
+    def ensured(self) -> List[str]:
+        """Returns the names of its `ensures`, of which one may be empty."""
+        found = [CLAUSE.match(it[0]) for it in self.clauses]
+        return [it[2] for it in found if it and it[1] == "ensures"]
+
     def is_called_in(self, names: Names) -> bool:
         """Returns whether the function may be among the names of a body."""
         return self.name in (names.members if self.holder else names.plain)
@@ -156,6 +161,21 @@ def weaker(clause: Tuple[str, ...]) -> Iterator[Tuple[str, Tuple[str, ...]]]:
     for it in directions(said):
         yield it, (f"{text[: text.index('{')]}{{ {it} }}",)
     yield "nothing", ()
+
+
+def clause_names(text: str) -> Dict[str, Set[str]]:
+    """Returns the names of the `ensures` of each function that a text declares, without bodies."""
+    found: Dict[str, Set[str]] = {}
+    name = ""
+    for line in text.split("\n"):
+        head = re.match(r"[\w\s()]*\bfn (\w+)", line)
+        clause = re.match(r" *ensures\b\*? ?(\w*)", line)
+        if head:
+            name = head[1]
+            found.setdefault(name, set())
+        elif name and clause:
+            found[name].add(clause[1])
+    return found
 
 
 def forms_of_functions(crate: str, path: str, text: str) -> Iterator[Form]:

@@ -164,14 +164,24 @@ FIELDS_READ = (
 )
 
 
+PROOFS = {
+    'one': 'returns c = sym c.twice.ensures\n',
+    'both': 'returns c = c.in-size.ensures.most\n\nother c = c.size.ensures.of_kit c.twice.result\n',
+}
+
+
 @contextlib.contextmanager
-def room():
-    """Two crates, one above the other."""
+def room(proofs=()):
+    """Two crates, one above the other, with some answers of the upper one's functions."""
     with tempfile.TemporaryDirectory() as top:
         for name, text in (('low', LOW), ('high', HIGH)):
             folder = pathlib.Path(top) / 'crates' / name / 'src'
             folder.mkdir(parents=True)
             (folder / 'lib.rt').write_text(text, encoding='utf-8')
+        for name, text in dict(proofs).items():
+            answers = pathlib.Path(top) / 'crates' / 'high' / 'proofs' / name / 'Answers.antt'
+            answers.parent.mkdir(parents=True)
+            answers.write_text(text, encoding='utf-8')
         (pathlib.Path(top) / 'crates.txt').write_text('low:\nhigh: low\n', encoding='utf-8')
         tops, stand_ins.TOPS = stand_ins.TOPS, ('high',)
         kit, stand_ins.printed = stand_ins.printed, lambda *_: '/kit/page'
@@ -191,6 +201,16 @@ def rounds_of_two_crates(refusing):
             for it in trials:
                 callers.notes(it, 'refused by it' if it.witness.name in refusing else '', {}, unsure)
     return found
+
+
+def cited_clauses(of_kit):
+    """Which forms are refused since a proof cites the clause, if the kit has functions with some names of clauses."""
+    with room(PROOFS) as made:
+        made.of_kit = of_kit
+        outcomes = weaken_readers.Outcomes(made.crates['low'].forms())
+        with contextlib.redirect_stdout(io.StringIO()):
+            weaken_calls.Callers(made, 'high', outcomes).settles_at_once()
+        return {it.title(): who for it, who in outcomes.settled.items()}
 
 
 def read_check():
@@ -246,6 +266,10 @@ ROUNDS_OF_ONE = [
     ["sizes on ['Few::size.least: nothing']"],
     ["both on ['twice: nothing']"],
 ]
+CITED = {
+    'twice: nothing': 'refused by high::one, which cites c.twice',
+    'Few::size.most: nothing': 'refused by high::both, which cites c.in-size',
+}
 READ = {
     'both': ('', {}),
     'one': ('refused by high::one', {'twice: nothing': 'refused by high/proofs/one/Answers.antt returns'}),
@@ -290,6 +314,11 @@ def check(_program):
     names = weaker_forms.names_in('for i in 0..count(a.b, T::new()) {')
     wanted = ({'b', 'new'}, {'for', 'i', 'in', '0', 'count', 'a', 'T', 'new'})
     yield 'the names of a range, a field and a path', lambda: same((names.members, names.plain), wanted)
+    yield 'clauses that proofs cite', lambda: same(cited_clauses({}), CITED)
+    most = {name: who for name, who in CITED.items() if 'twice' in name}
+    yield 'a clause that a function of the kit may have', lambda: same(cited_clauses({'size': {'most'}}), most)
+    names = weaker_forms.clause_names(SOURCE)
+    yield 'the names of clauses', lambda: same(names, {'meets': {'met', 'kept'}, 'own': {''}, 'plain': set()})
     yield 'what is tried together', lambda: same(rounds_of_two_crates(set()), ROUNDS)
     yield 'what is tried after a refusal', lambda: same(rounds_of_two_crates({'sizes'}), ROUNDS_OF_ONE)
     yield 'what a check says of each function', lambda: same(read_check(), READ)
