@@ -3,6 +3,7 @@
 
 usage: weaken.py CRATE[,CRATE..] [WORD..] [--checked DIR] [--room DIR] [--kept FILE] [--checks N]
                  [--list]
+       weaken.py all [WORD..] ..
 
 A clause is an `ensures` of a public function that is no method of a trait, or a field of a record
 in specs/. A WORD chooses the forms that have it in their title, as --list prints them: `meet`,
@@ -60,7 +61,7 @@ from weaken_readers import Outcomes, kept_in, name_of
 from weaker_forms import Form, declared
 
 STEPS = ("fields", "likely calls", "calls", "records")
-FEW = 3  # callers of a form that are tried in a crate before any others
+FEW = 1  # callers of a form that are tried in a crate before any others
 
 
 def owner_at(crate: Crate, path: str, at: int) -> str:
@@ -161,7 +162,7 @@ def main() -> int:
     words = argparse.ArgumentParser(
         description=__doc__, formatter_class=argparse.RawDescriptionHelpFormatter
     )
-    words.add_argument("crate", metavar="CRATE", help="a crate, or some with commas between")
+    words.add_argument("crate", metavar="CRATE", help="a crate, some with commas between, or all")
     words.add_argument("words", metavar="WORD", nargs="*", help="chooses forms")
     words.add_argument("--checked", metavar="DIR", help="a checkout that `rt ci` proved")
     words.add_argument("--room", metavar="DIR", default=ROOM, help="the copy")
@@ -174,8 +175,9 @@ def main() -> int:
     if not checked:
         sys.exit("a crate is not proved as it is")
     room = Room(os.path.abspath(given.room), os.path.abspath(checked), given.jobs)
-    names = [it for it in room.order if it in given.crate.split(",")]
-    if len(names) < len(set(given.crate.split(","))):
+    chosen = room.order if given.crate == "all" else given.crate.split(",")
+    names = [it for it in room.order if it in chosen]
+    if len(names) < len(set(chosen)):
         words.error(f"{given.crate}: crates.txt has no such crate")
     forms = [form for name in names for form in room.crates[name].forms()]
     if given.words:

@@ -22,7 +22,7 @@ LACKS = re.compile(r"(?:has no (?:field (?:named )?)?|unknown field )`([\w-]+)`"
 CITED = re.compile(r"\bc\.([\w-]+)\.ensures\b(?:\.(\w+))?")
 WORD = re.compile(r"[A-Za-z_]\w\w+")
 COMMON = {"result", "self", "now", "new", "old", "entry", "exit", "length", "ensures", "IsTrue"}
-UNSURE = 40  # outcomes that are made sure of together
+UNSURE = 20  # outcomes that are made sure of together
 
 
 class Trial(NamedTuple):
