@@ -18,7 +18,8 @@ but some callers are stand-ins (stand_ins.py), so a round costs the proofs of th
 each check loads. A round weakens many functions, and each of its callers calls a single one of
 them. A caller that is proved without all clauses of this function refuses no form of them. If it is
 not proved and its proof doesn't name the clause that it misses, the clauses are tried one by one.
-Callers in the crate itself come first, then those in the crates above it, from below.
+Callers in the crate itself come first, then those in the crates above it, from below. A clause that
+a caller's proof cites needs no round.
 
 A field is needed by each declaration that names it after a dot. To find out which record a name is
 of, a round writes wrong names in a crate, and the error of a declaration says which record has no
