@@ -61,7 +61,7 @@ from weaken_fields import Namers, Users
 from weaken_readers import Outcomes, kept_in, name_of
 from weaker_forms import Form, declared
 
-STEPS = ("fields", "likely calls", "calls", "records")
+STEPS = ("likely names", "likely calls", "declarations", "names", "calls", "records")
 FEW = 1  # callers of a form that are tried in a crate before any others
 
 
@@ -122,7 +122,9 @@ class Work:
 
     def takes(self, step: str, name: str) -> None:
         """Takes a step at a crate."""
-        if step == "fields":
+        if step in ("likely names", "declarations"):
+            Namers(self.room, name, self.outcomes).settles_declared(step == "likely names")
+        elif step == "names":
             Namers(self.room, name, self.outcomes).settles()
         elif step == "records":
             Users(self.room, name, self.outcomes).settles()

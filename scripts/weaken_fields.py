@@ -62,27 +62,33 @@ class Namers(Reader):
         self.right: Set[Tuple[str, str, str]] = set()  # names that are right in a declaration
 
     def settles(self) -> None:
-        """Tries the later fields of each record, then definitions and lemmas, then functions."""
-        own = [it for it in self.forms if it.crate == self.crate.name]
-        later = {it: weaker_forms.needing(self.crate.texts[it.path], it) for it in own}
-        self.outcomes.settle(
-            {it: f"refused by {it.owner}.{who}" for it, who in later.items() if who}
-        )
-        self.settles_over([])
+        """Tries functions whose proofs name fields that no definition or lemma needs."""
         done: Set[Function] = set()
         while real := self.naming(done):
             self.settles_over(real)
             done |= set(real)
 
-    def settles_over(self, real: List[Function]) -> None:
-        """Tries declarations and functions round by round, until no error is about a name."""
+    def settles_declared(self, is_brief: bool) -> None:
+        """Tries the later fields of each record, and then definitions, lemmas and samples."""
+        own = [it for it in self.forms if it.crate == self.crate.name]
+        later = {it: weaker_forms.needing(self.crate.texts[it.path], it) for it in own}
+        self.outcomes.settle(
+            {it: f"refused by {it.owner}.{who}" for it, who in later.items() if who}
+        )
+        self.settles_over([], is_brief)
+
+    def settles_over(self, real: List[Function], is_brief: bool = False) -> None:
+        """Tries declarations and functions round by round, until no error is about a name.
+
+        If `is_brief`, it stops at the first round that settles nothing.
+        """
         is_new = True
         while is_new and (left := self.outcomes.left(self.forms)):
             since, before = time.monotonic(), len(self.right)
             found = self.reads(left, self.check(left, real))
             self.outcomes.settle(found)
             self.tells(len(left), len(found), since)
-            is_new = len(self.right) > before
+            is_new = len(self.right) > before and bool(found or not is_brief)
 
     def check(self, forms: List[Form], real: List[Function]) -> str:
         """Checks the crate with wrong names of fields, or else some of its functions."""
