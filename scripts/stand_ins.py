@@ -79,8 +79,9 @@ class Crate:
             else:
                 self.records += weaker_forms.records_of(text)
 
+    @functools.cached_property
     def mentions(self) -> Dict[str, Set[str]]:
-        """Returns of each type and definition with a capital letter which others it mentions."""
+        """Which others each type and definition with a capital letter mentions."""
         found: Dict[str, Set[str]] = {}
         for text in self.texts.values():
             for name, lines in weaker_forms.declarations(text):

@@ -48,7 +48,6 @@ class Witnesses(Reader):
 
     def __init__(self, room: Room, name: str, outcomes: Outcomes, is_field: bool):
         super().__init__(room, name, outcomes, is_field)
-        self.proofs = {it: self.crate.proof(it) for it in self.functions}
         self.names = {it: weaker_forms.names_in(self.crate.body(it)) for it in self.functions}
         self.inner: Dict[Function, Set[Function]] = {}  # which functions of the crate each calls
         for it in self.functions:

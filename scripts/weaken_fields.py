@@ -23,7 +23,7 @@ class Reach:
         self.all = [room.crates[it] for it in (crate.name, *sorted(room.under[crate.name]))]
         self.mentions: Dict[str, Set[str]] = defaultdict(set)
         for each in self.all:
-            for word, words in each.mentions().items():
+            for word, words in each.mentions.items():
                 self.mentions[word] |= words
         self.found: Dict[Function, Set[str]] = {}
 
@@ -58,7 +58,6 @@ class Namers(Reader):
     def __init__(self, room: Room, name: str, outcomes: Outcomes):
         super().__init__(room, name, outcomes, True)
         self.reach = Reach(room, self.crate)
-        self.proofs = {it: self.crate.proof(it) for it in self.functions}
         self.right: Set[Tuple[str, str, str]] = set()  # names that are right in a declaration
 
     def settles(self) -> None:

@@ -17,12 +17,10 @@ ERROR = re.compile(
     r"^(?:\./)?(\S+\.(?:rt|antt)):(\d+):\d+: (?!note|warning|help|goal)(.*(?:\n  .*)?)",
     re.MULTILINE,
 )
-LACKS = re.compile(r"(?:has no (?:field (?:named )?)?|unknown field )`([\w-]+)`")
 # Of what cites a refused declaration or a stand-in.
 CASCADES = ("was not admitted", "has-holes", "not checked")
 UNTRIED = "NOT TRIED"
 REFUSED = "refused by"
-ENDS = ("holes=", "only=", "logic=")
 
 
 class Outcomes:
@@ -88,6 +86,7 @@ class Reader:
         forms = [it for it in outcomes.forms if it.crate in reach and it.is_field == is_field]
         self.forms = outcomes.left(forms)
         self.functions = self.crate.witnesses()
+        self.proofs = {it: self.crate.proof(it) for it in self.functions}
 
     def sources(self, forms: List[Form]) -> Set[str]:
         """Returns the crates below that forms are of, and those between them and this crate."""

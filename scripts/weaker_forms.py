@@ -169,12 +169,12 @@ def clause_names(text: str) -> Dict[str, Set[str]]:
     name = ""
     for line in text.split("\n"):
         head = re.match(r"[\w\s()]*\bfn (\w+)", line)
-        clause = re.match(r" *ensures\b\*? ?(\w*)", line)
+        clause = CLAUSE.match(line)
         if head:
             name = head[1]
             found.setdefault(name, set())
-        elif name and clause:
-            found[name].add(clause[1])
+        elif name and clause and clause[1] == "ensures":
+            found[name].add(clause[2])
     return found
 
 
@@ -233,12 +233,12 @@ def without_line(text: str, form: Form) -> str:
 
 def declarations(text: str) -> Iterator[Tuple[str, str]]:
     """Returns what a file declares under names with a capital letter, with the lines of each."""
-    heads = [it for it in re.finditer(r"^[^\s\-})/#].*", text, re.MULTILINE)]
-    ends = [it.start() for it in heads[1:]] + [len(text)]
-    for it, end in zip(heads, ends):
-        name = DECLARED.match(it[0])
+    lines = text.split("\n")
+    heads = [at for at, line in enumerate(lines) if is_head(line)]
+    for first, last in zip(heads, [*heads[1:], len(lines)]):
+        name = DECLARED.match(lines[first])
         if name:
-            yield name[1], text[it.start() : end]
+            yield name[1], "\n".join(lines[first:last])
 
 
 def with_names(text: str, names: Set[str], end: str, right: Set[Tuple[str, str]]) -> str:

@@ -162,8 +162,6 @@ FIELDS_READ = (
     {'Other.first: nothing': 'refused by high/proofs/B.antt f'},
     [('proofs/B.antt', 'f', 'first'), ('proofs/B.antt', 'g', 'second')],
 )
-
-
 PROOFS = {
     'one': 'returns c = sym c.twice.ensures\n',
     'both': 'returns c = c.in-size.ensures.most\n\nother c = c.size.ensures.of_kit c.twice.result\n',
@@ -278,6 +276,8 @@ READ = {
     'sizes': ('refused by high::sizes, at a limit of the prover',
               {'Few::size.most: nothing': 'refused by high/proofs/sizes/Answers.antt second'}),
 }
+
+
 def check(_program):
     functions = list(weaker_forms.functions_of('src/a.rt', SOURCE))
     forms = list(weaker_forms.forms_of_functions('high', 'src/a.rt', SOURCE))
