@@ -10,6 +10,7 @@ pub mod Samples
 mod SamplePins
 mod SampleTerms
 mod SampleRules
+mod SampleWhole
 pub mod Members
 pub mod PassSettings
 pub mod PassesKept
