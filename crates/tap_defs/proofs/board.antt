@@ -29,6 +29,7 @@ pub mod SampleQuiet
 pub mod SampleKeeping
 pub mod SampleRows
 pub mod SampleLogs
+pub mod SampleFields
 pub mod CaptureLemmas
 pub mod LogLemmas
 pub mod ComparedLemmas

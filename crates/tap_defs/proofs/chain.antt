@@ -18,5 +18,6 @@ pub mod RowLemmas
 pub mod ScanLemmas
 pub mod ScanRowLemmas
 pub mod SampleScanRows
+pub mod SampleFields
 pub mod StateLemmas
 pub mod TraceLemmas

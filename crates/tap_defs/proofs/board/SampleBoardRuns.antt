@@ -49,12 +49,12 @@ receiving =
       latches = on ∷ off ∷ [];
     }
 
-abbrev chain : List ChainPart
+abbrev pub chain : List ChainPart
 chain =
     record { logic = test_logic (Described drv); state = driving }
     ∷ record { logic = test_logic (Described rcv); state = receiving } ∷ []
 
-start : IsBoardChain wires chain
+pub start : IsBoardChain wires chain
 start = record {
   logics_are = refl;
   states_are = (

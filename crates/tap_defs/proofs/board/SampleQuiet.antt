@@ -113,7 +113,7 @@ quiet_row_between quiet =
     _ refl refl refl (λ e. omega (arith, e)) refl refl
 
 -- a test that selects EXTEST right after the reset, when both control cells may have 0 and so enable both drivers
-abbrev without_preload : List Clock
+abbrev pub without_preload : List Clock
 without_preload = test_clocks (take 1 (drop 2 (svf_scans bus)))
 
 abbrev any_latches : Choices
@@ -126,7 +126,7 @@ both_unsafe : IsSafelySet bus both_on → ⊥
 both_unsafe (inl none) = let z : true ≡ false = none 0 ts refl in cc z
 both_unsafe (inr all) = all.1.one 0 _ 0 1 _ _ refl refl refl (λ e. omega (arith, e)) refl refl
 
-preload_before_extest : IsQuiet bus without_preload → ⊥
+pub preload_before_extest : IsQuiet bus without_preload → ⊥
 unfolding run shown
 preload_before_extest quiet =
     let moments = (quiet no_faults chain any_latches (no_set bus) start).1 in
