@@ -14,10 +14,12 @@ use Rattle.board_defs.specs.Passes.{EnablesNew, ObservesNew, with_driver}
 use Rattle.board_defs.specs.Laws.{DecidesTerms, HasTestedDriver, ControlsNew, SaysPasses, PassesAre}
 use Rattle.board_defs.proofs.Samples.{ts, rcv, pin, net, board, bus, crossing, pull, pulled, c}
 
--- The drivers of the net of `bus`: a setting with both controls is not safe.
+-- the net of `bus`, which has two drivers and a receiver
 abbrev bus_net : Net
 bus_net = net 0 None (pin 0 0 ∷ pin 1 0 ∷ pin 2 0 ∷ [])
 
+-- The two controls of `bus` are not safe together, and its net is covered. Two nets of `crossing` are paired. The net of `pull` is blocked
+-- if the pull disables no driver.
 bus_apart : DecidesTerms bus → AreTogether bus (c 0 1) (c 1 1) → ⊥
 bus_apart terms both = let one : false ≡ true = (terms.together (c 0 1) (c 1 1)).1 both in cc one
 
@@ -30,6 +32,8 @@ crossing_is_paired terms = (terms.paired 0 1 _ _ refl refl (λ e. omega (arith, 
 pull_is_blocked : DecidesTerms (pull (Some false)) → IsReason (pull (Some false)) 0 (pulled (Some false)) Blocked
 pull_is_blocked terms = terms.reason 0 (pulled (Some false)) refl
 
+-- A pass with one control of `bus` does not enable the driver of the other control, and the other control cannot join it. A useful control
+-- is new before the first pass. A safe pass with one control observes the net.
 bus_disabled : SaysPasses bus → IsTestedDriver bus 0 0 → false ≡ enables bus (holds (c 1 1 ∷ [])) (pin 0 0)
 bus_disabled said tested =
     said.enabled 0 bus_net 0 (pin 0 0) (By (c 0 1)) (c 1 1 ∷ []) (record { on_board = refl; in_net = refl }) tested refl
