@@ -20,3 +20,4 @@ pub mod IsDeviceCells
 pub mod IsDevicePlaces
 pub mod IsDevice
 mod Samples
+mod SampleKeeps
