@@ -1,3 +1,4 @@
 mod EachLemmas
 mod LengthLemmas
 mod Samples
+mod SampleLengths
