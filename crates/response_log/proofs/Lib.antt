@@ -3,3 +3,4 @@ pub mod LineLemmas
 mod LawLemmas
 mod OffenseLemmas
 mod SampleTests
+mod SampleDigits

@@ -39,7 +39,7 @@ unfolding words_of
 too_many = refl
 
 -- one digit instead of two is a wrong length, whatever the digit is
-short_wrong_digit : log_rows (codes "G") 1 5 ≡ Err (Length 1)
+pub short_wrong_digit : log_rows (codes "G") 1 5 ≡ Err (Length 1)
 unfolding words_of
 short_wrong_digit = refl
 
