@@ -1,9 +1,27 @@
-//! A call of `bt_base` that makes a call of `put` on a sink in memory fail.
-ghost use Rattle.std.specs.Prelude.{◌≡◌, [], ◌∷◌, ◌++◌, OnOk, OnErr};
+//! Calls of `bt_base` that make a sink in memory, read the bytes that it took, and make its puts fail.
+ghost use Rattle.std.specs.Prelude.{◌≡◌, [], ◌∷◌, ◌++◌, IfOk, OnOk, OnErr};
 ghost use Rattle.bt_base.specs.MemSink.{taken_of, room_of, puts_of, faults_of, failing_of};
 
 use bt_base::MemSink;
-use std::alloc::AllocError;
+use std::alloc::{AllocError, Global};
+
+/// Creates an empty sink with room for `room` bytes. No put is chosen to fail.
+pub fn sink_with_room(alloc: Global, room: u32) -> Result<MemSink, AllocError>
+    ensures empty { IfOk result (λ s. taken_of s ≡ []) }
+    ensures room { IfOk result (λ s. room_of s ≡ room) }
+    ensures faults { IfOk result (λ s. faults_of s ≡ 0) }
+    ensures puts { IfOk result (λ s. puts_of s ≡ 0) }
+    ensures failing { IfOk result (λ s. failing_of s ≡ []) }
+{
+    MemSink::with_room(alloc, room)
+}
+
+/// Returns the bytes that the sink took, in order.
+pub fn taken_bytes(sink: &MemSink) -> &[u8]
+    ensures { result.now ≡ taken_of sink.now }
+{
+    sink.bytes()
+}
 
 /// Makes call number `call` of `put` fail and take at most `taken` bytes. The first call has number 1. Calls that were chosen before still
 /// fail, too. If memory runs out, nothing changes.
