@@ -13,20 +13,31 @@ The weaker forms of a clause are nothing in its place, and for `A <-> B` also `A
 If a proof refuses one of these two, nothing in its place isn't tried: it says even less.
 
 A proof can refuse a form of a function only if it is the proof of a caller. The script works in a
-copy, the room, which is among the temporary files if --room doesn't name it. There all functions
-but some callers are stand-ins (stand_ins.py), so a round costs the proofs of these callers and what
-each check loads. A round weakens many functions, and each of its callers calls a single one of
-them. A caller that is proved without all clauses of this function refuses no form of them. If it is
-not proved and its proof doesn't name the clause that it misses, the clauses are tried one by one.
-Callers in the crate itself come first, then those in the crates above it, from below. A clause that
-a caller's proof cites needs no round.
+copy, the room, which is among the temporary files if --room doesn't name it. In most rounds all
+functions but some callers are stand-ins (stand_ins.py), so a round costs the proofs of these
+callers and what each check loads. Such a round weakens many functions, and each of its callers
+calls a single one of them. A caller that is proved without all clauses of this function refuses no
+form of them. If it is not proved and its proof doesn't name the clause that it misses, the clauses
+are tried one by one. Callers in the crate itself come first, then those in the crates above it,
+from below. A clause that a caller's proof cites needs no round.
 
 A field is needed by each declaration that names it after a dot. To find out which record a name is
 of, a round writes wrong names in a crate, and the error of a declaration says which record has no
 such field. This needs no check of the crates below. First definitions, lemmas and samples are
-tried, then functions whose proofs name a field. A field that a later field of its record names
-needs no round. At last, records without their fields are tried over functions that may use them, as
-functions are that state less.
+tried, and at a later step functions whose proofs name a field. A field that a later field of its
+record names needs no round.
+
+Between these two steps, all fields that are left are dropped at once. A record keeps at least one.
+The check is of the whole crate, and none of its functions is a stand-in. The error of a declaration
+or a clause says which record has no such field. The fields that errors name come back, and the
+crate is checked again, until no error names a field. Definitions, lemmas and samples come before
+this step, since an error in one of them hides what depends on it. Functions whose proofs name a
+field come after it, since it leaves few fields to them.
+
+At last, records without their fields are tried over functions that may use them, as functions are
+that state less. The prover's tactics use fields without naming them. So the functions come first
+that were not proved when all fields were dropped. The others follow, and none is left out: a
+function that was proved may still need a field, since its own promise lost fields too.
 
 A caller that is refused for another reason than a missing name is checked once more with no form.
 If it isn't proved then either, it counts for nothing.
@@ -58,20 +69,11 @@ import must_fail
 from stand_ins import ROOM, Crate, Room, proved, read
 from weaken_calls import Callers
 from weaken_fields import Namers, Users
-from weaken_readers import Outcomes, kept_in, name_of
-from weaker_forms import Form, declared
+from weaken_readers import Outcomes, kept_in, name_of, owner_at
+from weaker_forms import Form
 
-STEPS = ("likely names", "likely calls", "declarations", "names", "calls", "records")
+STEPS = ("likely names", "likely calls", "declarations", "at once", "names", "calls", "records")
 FEW = 1  # callers of a form that are tried in a crate before any others
-
-
-def owner_at(crate: Crate, path: str, at: int) -> str:
-    """Returns the function, the record or the definition at a place of a file."""
-    line = crate.texts[path].count("\n", 0, at)
-    for it in crate.functions.get(path, ()):
-        if it.first <= line <= it.last:
-            return it.title()
-    return declared(crate.texts[path].split("\n")[: line + 1])
 
 
 def edits_of(crate: Crate) -> Iterator[Tuple[str, Set[Tuple[str, str]]]]:
@@ -80,9 +82,9 @@ def edits_of(crate: Crate) -> Iterator[Tuple[str, Set[Tuple[str, str]]]]:
     for file in sorted(os.listdir(folder)) if os.path.isdir(folder) else []:
         owners = set()
         for path, old, _ in must_fail.changes(read(f"{folder}/{file}")):
-            at = crate.texts.get(path, "").find(old)
-            if at >= 0:
-                owners.add((path, owner_at(crate, path, at)))
+            text = crate.texts.get(path, "")
+            if old in text:
+                owners.add((path, owner_at(path, text, text.count("\n", 0, text.index(old)))))
         yield file[: -len(".edit")], owners
 
 
@@ -124,6 +126,8 @@ class Work:
         """Takes a step at a crate."""
         if step in ("likely names", "declarations"):
             Namers(self.room, name, self.outcomes).settles_declared(step == "likely names")
+        elif step == "at once":
+            Users(self.room, name, self.outcomes).drops_all()
         elif step == "names":
             Namers(self.room, name, self.outcomes).settles()
         elif step == "records":

@@ -10,7 +10,6 @@ from weaken_readers import (
     ERROR,
     FAILED,
     UNTRIED,
-    VERDICT,
     Key,
     Outcomes,
     Reader,
@@ -109,8 +108,7 @@ class Witnesses(Reader):
 
     def refuses(self, witness: Function, text: str) -> str:
         """Returns how a check refused a function, or an empty text."""
-        own = self.crate.name_in_lines(witness)
-        verdicts = [it[2] for it in VERDICT.finditer(text) if own.fullmatch(it[1])]
+        verdicts = self.verdicts(witness, text)
         failed = [it for it in verdicts if it.startswith(FAILED)]
         name = "::".join([self.crate.name, *self.crate.place(witness)])
         limit = ", at a limit of the prover" if all(it == FAILED[2] for it in failed) else ""

@@ -1,17 +1,17 @@
 """Asks crates whether they need the fields of records."""
 import re
 import time
-from collections import defaultdict
+from collections import Counter, defaultdict
 from typing import Dict, List, Set, Tuple
 
 import weaker_forms
 from stand_ins import Crate, Room
 from weaken_calls import Witnesses
-from weaken_readers import CASCADES, ERROR, Outcomes, Reader
+from weaken_readers import CASCADES, ERROR, FAILED, Outcomes, Reader
 from weaker_forms import Form, Function, Literals, Record
 
 MISNAMED = "_misnamed"
-LACKS = re.compile(rf"record `(?:[\w.]+\.)?(\w+)` has no field `(\w+){MISNAMED}`")
+CALLS = "it calls"  # in what is said of a function that calls one which is not proved
 SOME = 24  # functions of a round
 
 
@@ -105,19 +105,12 @@ class Namers(Reader):
 
     def reads(self, forms: List[Form], text: str) -> Dict[Form, str]:
         """Returns which of some fields a check misses, and notes the names that are to be right."""
-        named = {(it.owner, it.clause): it for it in forms}
-        found: Dict[Form, str] = {}
         for it in ERROR.finditer(text):
             if MISNAMED in it[3] or not any(word in it[3] for word in CASCADES):
-                path = it[1]
-                who, lines = self.declaration(path, int(it[2]))
-                lacks = LACKS.search(it[3])
-                form = named.get((lacks[1], lacks[2])) if lacks else None
-                if form:
-                    found.setdefault(form, f"refused by {self.crate.name}/{path} {who}".strip())
+                who, lines = self.declaration(it[1], int(it[2]))
                 names = re.findall(rf"(\w+){MISNAMED}", it[3] if MISNAMED in it[3] else lines)
-                self.right |= {(path, who, name) for name in names}
-        return found
+                self.right |= {(it[1], who, name) for name in names}
+        return self.lacking(forms, text, MISNAMED)
 
     def naming(self, done: Set[Function]) -> List[Function]:
         """Returns functions that aren't done, of which each names a field that no other names."""
@@ -135,7 +128,13 @@ class Namers(Reader):
 
 
 class Users(Witnesses):
-    """What functions say to a record without a field that nothing names, if they may use it."""
+    """What functions say to a record without a field that nothing names, if they may use it.
+
+    Before that, all fields that are left are dropped at once, and the whole crate is checked with
+    all its functions. If a declaration names such a field, its error says so. A function that is
+    proved may need one of the fields nevertheless, since its own promise lost fields too. So this
+    refuses fields and says which witnesses are tried first, but it rules none of them out.
+    """
 
     def __init__(self, room: Room, name: str, outcomes: Outcomes):
         super().__init__(room, name, outcomes, True)
@@ -146,18 +145,63 @@ class Users(Witnesses):
         reach, owners = Reach(room, self.crate), {it.owner: it.key() for it in self.forms}
         for it in self.functions:
             self.needs[it] = {key for owner, key in owners.items() if owner in reach.of(it)}
+        failed = outcomes.failed.get(name, set())
         for form in self.forms:
             users = [it for it in self.functions if form.key() in self.needs[it]]
-            users.sort(key=lambda it: (len(self.needs[it]), len(self.proofs[it])))
+            users.sort(key=lambda it: (it not in failed, len(self.needs[it]), len(self.proofs[it])))
             self.of[form] = users
+
+    def drops_all(self) -> None:
+        """Drops all fields that are left, until no error names one, and notes what fails then."""
+        while gone := self.dropped():
+            since = time.monotonic()
+            text = self.check_all(gone, set())
+            found = self.lacking(gone, text)
+            self.outcomes.settle(found)
+            self.tells(len(gone), len(found), since)
+            if not found:
+                self.outcomes.failed[self.crate.name] = self.failing(gone, text)
+                break
+
+    def dropped(self) -> List[Form]:
+        """Returns the fields that are left, but the last one of a record that would have none."""
+        left = self.outcomes.left(self.forms)
+        last, counts = {it.key(): it for it in left}, Counter(it.key() for it in left)
+        kept = {it for key, it in last.items() if counts[key] == len(self.record(it).fields)}
+        return [it for it in left if it not in kept]
+
+    def failing(self, forms: List[Form], text: str) -> Set[Function]:
+        """Returns the functions that a check of all functions, without some fields, doesn't prove.
+
+        It doesn't try a function that calls such a one. So there are further checks, in which those
+        that fail are stand-ins. A function that no check tries is among those that fail.
+        """
+        failed: Set[Function] = set()
+        while True:
+            said = {it: self.verdicts(it, text) for it in self.functions if it not in failed}
+            bad = {it: [how for how in hows if how.startswith(FAILED)] for it, hows in said.items()}
+            new = {it for it, hows in bad.items() if any(CALLS not in how for how in hows)}
+            waiting = {it for it, hows in bad.items() if hows or not said[it]} - new
+            failed |= new
+            if not new or not waiting:
+                return failed | waiting
+            text = self.check_all(forms, failed)
 
     def check(self, forms: List[Form], real: List[Function]) -> str:
         """Checks functions of the crate without some fields of records."""
+        return self.check_only(forms, real, sorted(map(self.crate.path_of, real)))
+
+    def check_all(self, forms: List[Form], failed: Set[Function]) -> str:
+        """Checks the whole crate without some fields, with stand-ins for functions that fail."""
+        every = [it for each in self.crate.functions.values() for it in each]
+        return self.check_only(forms, [it for it in every if it not in failed], [])
+
+    def check_only(self, forms: List[Form], real: List[Function], only: List[str]) -> str:
+        """Checks some paths of the crate, or all, without some fields and with some functions."""
         name, sources = self.crate.name, self.sources(forms)
         gone: Dict[Record, Set[str]] = defaultdict(set)
         for it in forms:
-            records = self.room.crates[it.crate].records
-            gone[next(one for one in records if one.name == it.owner)].add(it.clause)
+            gone[self.record(it)].add(it.clause)
         for each in (*sources, name):
             texts = self.room.crates[each].with_stand_ins([], real if each == name else [])
             for it in forms:
@@ -167,7 +211,12 @@ class Users(Witnesses):
                 if path.endswith(".antt"):
                     texts[path] = weaker_forms.without_fields(text, gone, self.literals)
             self.room.lays_out(name, each, texts)
-        return self.room.check(name, sources, sorted(map(self.crate.path_of, real)))
+        return self.room.check(name, sources, only)
+
+    def record(self, form: Form) -> Record:
+        """Returns the record that has a field."""
+        records = self.room.crates[form.crate].records
+        return next(it for it in records if it.name == form.owner)
 
     def cited(self, witness: Function, text: str, forms: List[Form]) -> List[Form]:
         """Returns those of some fields that a text names."""

@@ -7,7 +7,7 @@ import time
 from typing import Dict, List, Set, Tuple
 
 from stand_ins import Room, read
-from weaker_forms import Form, Function, declared, is_head
+from weaker_forms import Form, Function, declared, functions_of, is_head
 
 Key = Tuple[str, str, str]
 MOST = 240  # characters of a message
@@ -17,6 +17,7 @@ ERROR = re.compile(
     r"^(?:\./)?(\S+\.(?:rt|antt)):(\d+):\d+: (?!note|warning|help|goal)(.*(?:\n  .*)?)",
     re.MULTILINE,
 )
+NO_FIELD = re.compile(r"record `(?:[\w.]+\.)?(\w+)` has no field `(\w+)`")
 # Of what cites a refused declaration or a stand-in.
 CASCADES = ("was not admitted", "has-holes", "not checked")
 UNTRIED = "NOT TRIED"
@@ -31,6 +32,8 @@ class Outcomes:
         self.settled: Dict[Form, str] = {}
         self.called: Set[Form] = set()  # forms of functions that some function calls
         self.untried: Dict[Form, str] = {}  # forms that could not be tried somewhere, and why
+        # Of each crate, functions that aren't proved if it lacks all fields at once.
+        self.failed: Dict[str, Set[Function]] = {}
         # Of each crate, which forms its functions were tried on.
         self.tried: Dict[str, Set[Tuple[Form, Function]]] = {}
 
@@ -77,11 +80,20 @@ def tell(text: str) -> None:
     sys.stderr.write(f"-- {text}\n")
 
 
+def owner_at(path: str, text: str, line: int) -> str:
+    """Returns the function, the record or the definition at a line of a file."""
+    for it in functions_of(path, text) if path.endswith(".rt") else ():
+        if it.first <= line <= it.last:
+            return it.title()
+    return declared(text.split("\n")[: line + 1])
+
+
 class Reader:
     """A crate that may refuse forms, its own and those of crates below it."""
 
     def __init__(self, room: Room, name: str, outcomes: Outcomes, is_field: bool):
         self.room, self.crate, self.outcomes = room, room.crates[name], outcomes
+        self.copy = f"{room.top}/{name}/crates"  # the folder of the crates that are checked
         reach = {name} | room.under[name]
         forms = [it for it in outcomes.forms if it.crate in reach and it.is_field == is_field]
         self.forms = outcomes.left(forms)
@@ -94,12 +106,34 @@ class Reader:
 
     def declaration(self, path: str, at: int) -> Tuple[str, str]:
         """Returns the name and the lines of what is declared at a line of a file of the room."""
-        place = f"{self.room.top}/{self.crate.name}/crates/{self.crate.name}/{path}"
-        lines = read(place).split("\n") if os.path.isfile(place) else []
+        text = read(self.place(path)) if os.path.isfile(self.place(path)) else ""
+        lines = text.split("\n")
         heads = [place for place, it in enumerate(lines) if is_head(it)]
         first = max((it for it in heads if it < at), default=0)
         last = min((it for it in heads if it >= at), default=len(lines))
-        return declared(lines[:at]), "\n".join(lines[first:last])
+        return owner_at(path, text, at - 1), "\n".join(lines[first:last])
+
+    def place(self, path: str) -> str:
+        """Returns where a file is that a check names. It names those of crates below in full."""
+        return os.path.join(self.copy, self.crate.name, path)
+
+    def lacking(self, forms: List[Form], text: str, end: str = "") -> Dict[Form, str]:
+        """Returns the fields, with some end of their names, that declarations of a check miss."""
+        named = {(it.owner, it.clause + end): it for it in forms}
+        found: Dict[Form, str] = {}
+        for it in ERROR.finditer(text):
+            lacks = NO_FIELD.search(it[3])
+            form = named.get((lacks[1], lacks[2])) if lacks else None
+            if form:
+                file = os.path.relpath(self.place(it[1]), self.copy)
+                who = self.declaration(it[1], int(it[2]))[0]
+                found.setdefault(form, f"{REFUSED} {file} {who}".strip())
+        return found
+
+    def verdicts(self, it: Function, text: str) -> List[str]:
+        """Returns what a check says of a function and its closures."""
+        own = self.crate.name_in_lines(it)
+        return [one[2] for one in VERDICT.finditer(text) if own.fullmatch(one[1])]
 
     def tells(self, tried: int, refused: int, since: float) -> None:
         """Says what a round came to."""

@@ -162,6 +162,25 @@ FIELDS_READ = (
     {'Other.first: nothing': 'refused by high/proofs/B.antt f'},
     [('proofs/B.antt', 'f', 'first'), ('proofs/B.antt', 'g', 'second')],
 )
+# All fields of both records are left at first. So the second field of one stays, and the only one of the other.
+AT_ONCE = ["""./proofs/one/Answers.antt:2:13: error: `returns`: record `Rattle.low.specs.A.IsPair` has no field `first` — the fields
+proofs/both/Answers.antt:2:13: error: `returns`: expected type `IsPair`, but this has type `Other`
+fn high::one: not proved
+""", """proofs/sizes/Answers.antt:2:13: error: `returns`: `second` is not a field of record `Rattle.low.specs.A.IsPair`
+fn high::both: no proof: it calls `high::sizes`, which is not proved
+fn high::one: no holes
+fn high::other: no holes
+fn high::sizes: not proved
+""", """fn high::both: depends on a hole in `sizes_spec`
+fn high::one: no holes
+fn high::other: no holes
+fn high::sizes: depends on a hole in `sizes_spec`
+"""]
+USING = {
+    'both': 'returns : IsPair 1 1\nreturns c = c\n',
+    'one': 'returns : IsPair 1 1\nreturns c = c.first\n',
+    'sizes': 'returns : IsPair 1 1\nreturns c = by_search_of_all c\n',
+}
 PROOFS = {
     'one': 'returns c = sym c.twice.ensures\n',
     'both': 'returns c = c.in-size.ensures.most\n\nother c = c.size.ensures.of_kit c.twice.result\n',
@@ -169,8 +188,8 @@ PROOFS = {
 
 
 @contextlib.contextmanager
-def room(proofs=()):
-    """Two crates, one above the other, with some answers of the upper one's functions."""
+def room(proofs=(), specs=''):
+    """Two crates, one above the other, with some answers of the upper one's functions and records of the lower one."""
     with tempfile.TemporaryDirectory() as top:
         for name, text in (('low', LOW), ('high', HIGH)):
             folder = pathlib.Path(top) / 'crates' / name / 'src'
@@ -180,6 +199,9 @@ def room(proofs=()):
             answers = pathlib.Path(top) / 'crates' / 'high' / 'proofs' / name / 'Answers.antt'
             answers.parent.mkdir(parents=True)
             answers.write_text(text, encoding='utf-8')
+        if specs:
+            (pathlib.Path(top) / 'crates' / 'low' / 'specs').mkdir()
+            (pathlib.Path(top) / 'crates' / 'low' / 'specs' / 'A.antt').write_text(specs, encoding='utf-8')
         (pathlib.Path(top) / 'crates.txt').write_text('low:\nhigh: low\n', encoding='utf-8')
         tops, stand_ins.TOPS = stand_ins.TOPS, ('high',)
         kit, stand_ins.printed = stand_ins.printed, lambda *_: '/kit/page'
@@ -240,6 +262,37 @@ def read_fields():
         return {it.title(): who for it, who in found.items()}, sorted(namers.right)
 
 
+def all_at_once():
+    """What refuses fields if all are dropped at once, with what each check has and which witnesses come first before and after."""
+    with room(USING, RECORD) as made:
+        outcomes = weaken_readers.Outcomes(list(weaker_forms.forms_of_records('low', 'specs/A.antt', RECORD)))
+        field, checks, texts = outcomes.forms[1], [], list(AT_ONCE)
+
+        def answer(name, sources, only):
+            crates = pathlib.Path(made.top) / name / 'crates'
+            fields = weaker_forms.fields((crates / 'low' / 'specs' / 'A.antt').read_text(encoding='utf-8'))
+            code = (crates / name / 'src' / 'lib.rt').read_text(encoding='utf-8')
+            checks.append((sorted(sources), only, [f'{it[0]}.{it[1]}' for it in fields], code == HIGH, code.count('loop {}')))
+            return texts.pop(0)
+
+        made.check = answer
+        first = weaken_fields.Users(made, 'high', outcomes)
+        with contextlib.redirect_stdout(io.StringIO()), contextlib.redirect_stderr(io.StringIO()):
+            first.drops_all()
+        orders = [[it.name for it in users.of[field]] for users in (first, weaken_fields.Users(made, 'high', outcomes))]
+        return {it.title(): who for it, who in outcomes.settled.items()}, checks, orders
+
+
+def missed_below():
+    """What refuses a field that a clause of the crate below names."""
+    with room(USING, RECORD) as made:
+        forms = list(weaker_forms.forms_of_records('low', 'specs/A.antt', RECORD))
+        made.lays_out('high', 'low', made.crates['low'].texts)
+        text = f'{made.top}/high/crates/low/src/lib.rt:7:9: error: `ensures-most`: record `Other` has no field `first`. A record further'
+        found = weaken_fields.Users(made, 'high', weaken_readers.Outcomes(forms)).lacking(forms, text)
+        return {it.title(): who for it, who in found.items()}
+
+
 def kept_forms():
     """Which forms a later run leaves out, if one was refused and one was not."""
     with room() as made, tempfile.TemporaryDirectory() as top:
@@ -268,6 +321,16 @@ CITED = {
     'twice: nothing': 'refused by high::one, which cites c.twice',
     'Few::size.most: nothing': 'refused by high::both, which cites c.in-size',
 }
+ALL_AT_ONCE = (
+    {'IsPair.first: nothing': 'refused by high/proofs/one/Answers.antt returns'},
+    [
+        (['low'], [], ['IsPair.second', 'Other.first'], True, 0),
+        (['low'], [], ['IsPair.first', 'Other.first'], True, 0),
+        (['low'], [], ['IsPair.first', 'Other.first'], False, 1),
+    ],
+    # `both` isn't proved only since it calls `sizes`.
+    [['both', 'one', 'sizes'], ['sizes', 'both', 'one']],
+)
 READ = {
     'both': ('', {}),
     'one': ('refused by high::one', {'twice: nothing': 'refused by high/proofs/one/Answers.antt returns'}),
@@ -308,6 +371,12 @@ def check(_program):
     partly = weaker_forms.with_names(LEMMAS.replace('_misnamed', ''), {'first', 'second'}, '_misnamed', {('f', 'first')})
     yield 'wrong names but one', lambda: same(partly, LEMMAS.replace('first_misnamed', 'first'))
     yield 'what a check says of wrong names', lambda: same(read_fields(), FIELDS_READ)
+    settled, checks, orders = all_at_once()
+    yield 'a field that only an answer names, and errors that are about none', lambda: same(settled, ALL_AT_ONCE[0])
+    yield 'records that keep a field, and functions that become stand-ins', lambda: same(checks, ALL_AT_ONCE[1])
+    yield 'a function that fails without all fields comes first', lambda: same(orders, ALL_AT_ONCE[2])
+    missed = {'Other.first: nothing': 'refused by low/src/lib.rt Few::size'}
+    yield 'a field that a clause of a crate below names', lambda: same(missed_below(), missed)
     ends = [(it.body, it.last) for it in weaker_forms.functions_of('src/pair.rt', BROKEN)]
     yield 'a clause with a line that ends as a head does', lambda: same(ends, [(7, 9)])
     yield 'a refused form is kept, any other is not', lambda: same(kept_forms(), (set(), True))
