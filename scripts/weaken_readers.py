@@ -106,7 +106,7 @@ class Reader:
 
     def declaration(self, path: str, at: int) -> Tuple[str, str]:
         """Returns the name and the lines of what is declared at a line of a file of the room."""
-        text = read(self.place(path)) if os.path.isfile(self.place(path)) else ""
+        text = self.text_of(path)
         lines = text.split("\n")
         heads = [place for place, it in enumerate(lines) if is_head(it)]
         first = max((it for it in heads if it < at), default=0)
@@ -117,13 +117,22 @@ class Reader:
         """Returns where a file is that a check names. It names those of crates below in full."""
         return os.path.join(self.copy, self.crate.name, path)
 
+    def text_of(self, path: str) -> str:
+        """Returns the text of a file that a check names, or nothing if there is no such file."""
+        return read(self.place(path)) if os.path.isfile(self.place(path)) else ""
+
+    def declared_as(self, path: str, name: str) -> str:
+        """Returns the declared name of what a file of the room has under a name."""
+        imported = re.search(rf"(\w+) as {name}\b", self.text_of(path))
+        return imported[1] if imported else name
+
     def lacking(self, forms: List[Form], text: str, end: str = "") -> Dict[Form, str]:
         """Returns the fields, with some end of their names, that declarations of a check miss."""
         named = {(it.owner, it.clause + end): it for it in forms}
         found: Dict[Form, str] = {}
         for it in ERROR.finditer(text):
             lacks = NO_FIELD.search(it[3])
-            form = named.get((lacks[1], lacks[2])) if lacks else None
+            form = named.get((self.declared_as(it[1], lacks[1]), lacks[2])) if lacks else None
             if form:
                 file = os.path.relpath(self.place(it[1]), self.copy)
                 who = self.declaration(it[1], int(it[2]))[0]

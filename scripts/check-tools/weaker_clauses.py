@@ -293,6 +293,17 @@ def missed_below():
         return {it.title(): who for it, who in found.items()}
 
 
+def missed_by_another_name():
+    """What refuses a field of a record that a file imports under another name."""
+    with room(USING, RECORD) as made:
+        forms = list(weaker_forms.forms_of_records('low', 'specs/A.antt', RECORD))
+        lines = 'use Rattle.low.specs.A.{IsPair, Other as Both}\n\nf : Both → ℕ\nf c = c.first\n'
+        made.lays_out('high', 'high', {'proofs/B.antt': lines})
+        text = 'proofs/B.antt:4:7: error: `f`: record `Both` has no field `first` — the fields'
+        found = weaken_fields.Users(made, 'high', weaken_readers.Outcomes(forms)).lacking(forms, text)
+        return {it.title(): who for it, who in found.items()}
+
+
 def kept_forms():
     """Which forms a later run leaves out, if one was refused and one was not."""
     with room() as made, tempfile.TemporaryDirectory() as top:
@@ -377,6 +388,8 @@ def check(_program):
     yield 'a function that fails without all fields comes first', lambda: same(orders, ALL_AT_ONCE[2])
     missed = {'Other.first: nothing': 'refused by low/src/lib.rt Few::size'}
     yield 'a field that a clause of a crate below names', lambda: same(missed_below(), missed)
+    missed = {'Other.first: nothing': 'refused by high/proofs/B.antt f'}
+    yield 'a field of a record with another name', lambda: same(missed_by_another_name(), missed)
     ends = [(it.body, it.last) for it in weaker_forms.functions_of('src/pair.rt', BROKEN)]
     yield 'a clause with a line that ends as a head does', lambda: same(ends, [(7, 9)])
     yield 'a refused form is kept, any other is not', lambda: same(kept_forms(), (set(), True))
