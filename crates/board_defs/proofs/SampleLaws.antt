@@ -12,11 +12,8 @@ use Rattle.board_defs.specs.Pins.{guarded}
 use Rattle.board_defs.specs.Coverage.{IsCovered, ArePaired, IsTestedDriver, IsUseful, AreTogether, IsReason}
 use Rattle.board_defs.specs.Passes.{EnablesNew, ObservesNew, with_driver}
 use Rattle.board_defs.specs.Laws.{DecidesTerms, HasTestedDriver, ControlsNew, SaysPasses, PassesAre}
-use Rattle.board_defs.proofs.Samples.{ts, rcv, pin, net, board, bus, crossing, pull, pulled, c}
-
--- the net of `bus`, which has two drivers and a receiver
-abbrev bus_net : Net
-bus_net = net 0 None (pin 0 0 ∷ pin 1 0 ∷ pin 2 0 ∷ [])
+use Rattle.board_defs.proofs.Samples.{ts, pin, net, board, bus_net, bus, crossing, pull, pulled, c}
+use Rattle.board_defs.proofs.SampleRules.{pair}
 
 -- The two controls of `bus` are not safe together, and its net is covered. Two nets of `crossing` are paired. The net of `pull` is blocked
 -- if the pull disables no driver.
@@ -55,11 +52,11 @@ bus_pass_is_safe : PassesAre bus → IsSafe bus (holds (c 0 1 ∷ []))
 bus_pass_is_safe passes = passes.kept.safe 0 (c 0 1 ∷ []) refl
 
 -- No setting observes a supply net. So on a board that has no other net, no control enables a tested driver, and no pass is needed.
-abbrev supplied : Net
+abbrev pub supplied : Net
 supplied = record (net 0 None (pin 0 0 ∷ pin 1 0 ∷ [])) { supply = true }
 
-abbrev supply : RawBoard
-supply = board (ts ∷ rcv ∷ []) (supplied ∷ [])
+abbrev pub supply : RawBoard
+supply = pair (supplied ∷ [])
 
 only_net : (n : ℕ) (other : Net) → slice_get supply.nets n ≡ Some other → other ≡ supplied
 only_net zero other e = sym (same_Some supplied other e)

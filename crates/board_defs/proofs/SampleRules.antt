@@ -190,7 +190,7 @@ long_part rules = let most = rules.1 in omega (arith, most)
 no_chain : IsBoard (board [] []) → ⊥
 no_chain rules = let some = rules.chain_some in omega (arith, some)
 
-abbrev pair : List Net → RawBoard
+abbrev pub pair : List Net → RawBoard
 pair nets = board (ts ∷ rcv ∷ []) nets
 
 names_twice : IsBoard
@@ -219,7 +219,7 @@ twice_in_net rules =
 without_place : IsPlaced (pair []) (record (pin 1 0) { at = None }) None → ⊥
 without_place rules = let none = rules 1 (record { name = codes "U2"; kind = Bypass 2 }) (omega arith) refl in cc none
 
-inert_in_chain : AreInertAlike (pair (net 0 None (record (pin 1 0) { inert = true } ∷ []) ∷ [])) → ⊥
+pub inert_in_chain : AreInertAlike (pair (net 0 None (record (pin 1 0) { inert = true } ∷ []) ∷ [])) → ⊥
 inert_in_chain rules =
     rules.in_chain 0 (net 0 None []) (omega arith) 0 (pin 1 0) (omega arith) refl 1
     (record { name = codes "U2"; kind = Bypass 2 }) (omega arith) refl

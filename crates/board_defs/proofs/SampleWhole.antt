@@ -7,16 +7,15 @@ use Rattle.board_defs.specs.declared.device.Mode.TheVariants.{Outward}
 use Rattle.board_defs.specs.declared.device.Role.TheVariants.{Input, Output2, Output3}
 use Rattle.board_defs.specs.declared.device.PortBit.{PortBit}
 use Rattle.board_defs.specs.declared.device.RawDevice.{RawDevice}
-use Rattle.board_defs.specs.declared.board.PartKind.TheVariants.{Described}
-use Rattle.board_defs.specs.declared.board.Net.{Net}
-use Rattle.board_defs.specs.declared.board.RawBoard.{RawBoard}
 use Rattle.board_defs.specs.declared.coverage.Reason.TheVariants.{Supply, NoReceiver}
 use Rattle.board_defs.specs.DeviceRules.{AreIndexed, ArePort, AreOfPorts, IsDevice, range_indexes}
 use Rattle.board_defs.specs.BoardRules.{IsBoard}
 use Rattle.board_defs.specs.Coverage.{IsReason}
 use Rattle.board_defs.proofs.BoardChecks.{board_of}
 use Rattle.board_defs.proofs.Reasons.{reason_is}
-use Rattle.board_defs.proofs.Samples.{port_bit, entry, taps, device, rcv, ts, pin, net, board, bus}
+use Rattle.board_defs.proofs.Samples.{port_bit, entry, taps, device, rcv, ts, pin, net, board, bus_net, bus}
+use Rattle.board_defs.proofs.SampleRules.{pair, inert_in_chain}
+use Rattle.board_defs.proofs.SampleLaws.{supplied, supply}
 
 -- the device `ts` with these port bits behind those of the test access port
 abbrev with_bits : List PortBit → RawDevice
@@ -27,16 +26,16 @@ abbrev output : ℕ → Option ℕ → List ℕ → PortBit
 output port index name = port_bit port index Outward (Some name) false
 
 -- Two bits of one port must have indexes.
-unindexed : (left right : ℕ) (indexes : List ℕ) → None ∷ None ∷ [] ≡ map Some indexes → ⊥
-unindexed left right [] same = cc same
-unindexed left right (index ∷ indexes) same = cc same
+unindexed : (indexes : List ℕ) → None ∷ None ∷ [] ≡ map Some indexes → ⊥
+unindexed [] same = cc same
+unindexed (index ∷ indexes) same = cc same
 
 two_plain : ArePort (output 4 None (codes "1") ∷ output 4 None (codes "2") ∷ []) → ⊥
 two_plain rules = either rules.indexed
   where
     either : AreIndexed (output 4 None (codes "1") ∷ output 4 None (codes "2") ∷ []) → ⊥
     either (inl same) = cc same
-    either (inr (left, right, same)) = unindexed left right (range_indexes left right) same
+    either (inr (left, right, same)) = unindexed (range_indexes left right) same
 
 -- No two ports may have the same name. Each port bit must belong to a port, and the port bits must be in the order of the ports. The bits of
 -- each port must make a plain port or a vector.
@@ -81,33 +80,25 @@ device_with_long_bits : IsDevice (record ts { bits = replicate 65536 (output 4 N
 device_with_long_bits rules = let most = rules.bits_most in omega (arith, most, length-replicate 65536 (output 4 None (codes "1")))
 
 -- A board must have no two nets of the same name, no inert pin of a part in the chain, and no driver that is always on on a supply net.
-abbrev pair : List Net → RawBoard
-pair nets = board (ts ∷ rcv ∷ []) nets
-
 nets_twice : IsBoard (pair (net 0 None [] ∷ net 0 None [] ∷ [])) → ⊥
 nets_twice rules = rules.nets_differ 0 1 (net 0 None []) (omega arith) (omega arith) refl
 
 board_with_inert_pin : IsBoard (pair (net 0 None (record (pin 1 0) { inert = true } ∷ []) ∷ [])) → ⊥
-board_with_inert_pin rules =
-    rules.inert.in_chain 0 (net 0 None []) (omega arith) 0 (pin 1 0) (omega arith) refl 1
-    (record { name = codes "U2"; kind = Described rcv }) (omega arith) refl
+board_with_inert_pin rules = inert_in_chain rules.inert
 
 abbrev always_on : RawDevice
 always_on = device (codes "Q" ∷ []) (output 4 None (codes "1") ∷ []) (entry 0 Output2 4 None ∷ []) 1
 
-abbrev supplied : Net
-supplied = record (net 0 None (pin 0 0 ∷ [])) { supply = true }
-
-driver_on_supply : IsBoard (board (always_on ∷ []) (supplied ∷ [])) → ⊥
+driver_on_supply : IsBoard (board (always_on ∷ rcv ∷ []) (supplied ∷ [])) → ⊥
 driver_on_supply rules =
     let free = (rules.no_guarded_driver 0 0 supplied (pin 0 0) (record { on_board = refl; in_net = refl }) refl).0 in cc free
 
 -- A reason must not be given for a covered net. It must hold, and no reason that is tried before it may hold.
-reason_of_covered_net : IsReason bus 0 (net 0 None (pin 0 0 ∷ pin 1 0 ∷ pin 2 0 ∷ [])) NoReceiver → ⊥
-reason_of_covered_net rules = rules.uncovered (reason_is bus 0 (net 0 None (pin 0 0 ∷ pin 1 0 ∷ pin 2 0 ∷ [])) (board_of bus refl) refl)
+reason_of_covered_net : IsReason bus 0 bus_net NoReceiver → ⊥
+reason_of_covered_net rules = rules.uncovered (reason_is bus 0 bus_net (board_of bus refl) refl)
 
-reason_that_fails : IsReason bus 0 (net 0 None (pin 0 0 ∷ pin 1 0 ∷ pin 2 0 ∷ [])) Supply → ⊥
-reason_that_fails rules = let supply = rules.holds in cc supply
+reason_that_fails : IsReason bus 0 bus_net Supply → ⊥
+reason_that_fails rules = let given = rules.holds in cc given
 
-reason_behind_another : IsReason (pair (supplied ∷ [])) 0 supplied NoReceiver → ⊥
+reason_behind_another : IsReason supply 0 supplied NoReceiver → ⊥
 reason_behind_another rules = rules.first Supply (omega arith) refl

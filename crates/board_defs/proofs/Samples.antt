@@ -137,8 +137,11 @@ abbrev pub pairs : RawBoard → List (ℕ × ℕ)
 pairs b = map (λ pair. (pair.0.0, pair.1.0)) (paired_nets b)
 
 -- Two three-state drivers and a receiver on one net. Each driver needs a pass of its own.
+abbrev pub bus_net : Net
+bus_net = net 0 None (pin 0 0 ∷ pin 1 0 ∷ pin 2 0 ∷ [])
+
 abbrev pub bus : RawBoard
-bus = board (ts ∷ ts ∷ rcv ∷ []) (net 0 None (pin 0 0 ∷ pin 1 0 ∷ pin 2 0 ∷ []) ∷ [])
+bus = board (ts ∷ ts ∷ rcv ∷ []) (bus_net ∷ [])
 
 bus_covered : reasons bus ≡ None ∷ []
 bus_covered = refl
