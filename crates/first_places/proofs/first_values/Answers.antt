@@ -1,5 +1,5 @@
 -- The value of an earlier item replaces the value of a later item with the same key.
-use Rattle.std.proofs.Common.{◌≡◌, ◌-◌, ◌+◌, ◌<◌, ◌≤◌, length, sym, arith}
+use Rattle.std.proofs.Common.{◌≡◌, ◌-◌, ◌+◌, ◌<◌, length, sym, arith}
 use Rattle.indexmap.specs.IndexMap.{get}
 use Rattle.first_places.proofs.PlaceLemmas.{value_step}
 use Rattle.first_places.proofs.first_values.Goals as goal

@@ -1,4 +1,4 @@
-use Rattle.std.proofs.Common.{◌++◌, List, take, ap, sym, ◌∙◌}
+use Rattle.std.proofs.Common.{◌++◌, List, ap, sym, ◌∙◌}
 use Rattle.board_defs.specs.declared.board.NetPin.{NetPin}
 use Rattle.net_pins.specs.declared.nets.ReaderCell.{ReaderCell}
 use Rattle.net_pins.specs.NetCells.{readers_at}
