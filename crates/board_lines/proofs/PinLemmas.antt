@@ -36,7 +36,7 @@ value_append {K} {V} eq xs ys q =
     by_case None = refl
     by_case (Some i) = refl
 
--- a part that does not have the name of the pin's part gives no place of the pin
+-- If the name of part `part` is not `pin.0`, the name of the pin's part, then the list of the part's pins has no place for the pin.
 bits_other : (part : ℕ) (name : List ℕ) (n : ℕ) (bits : List PortBit) (pin : Pin)
     → same_word name pin.0 ≡ false → first_value same_pin (bit_places part name n bits) pin ≡ None
 bits_other part name n [] pin other = refl

@@ -23,8 +23,10 @@ Walk text place line [] to last_line = (place ≡ to) × (line ≡ last_line)
 Walk text place line (token ∷ tokens) to last_line =
     (step text place line ≡ Ok (Some token)) × Walk text token.«end» token.line tokens to last_line
 
--- The lexer's steps find these tokens, and the next step has this result and ends the walk with `answer`. A
--- step that finds another token ends the walk only after `token_limit` tokens.
+-- How a walk ends that has found these tokens. The first argument is the result of the next step. If the step
+-- reaches the end of the text, the answer is `Ok`. If it finds a fault, the answer is this fault. If it finds
+-- another token, the walk must have found `token_limit` tokens, and the answer is `TooMany` with the line of the
+-- other token.
 abbrev pub Ends : Result (Option Token) LexFault → List Token → Result (Unit {0}) LexFault → Type 0
 Ends (Ok None) tokens answer = answer ≡ Ok tt
 Ends (Ok (Some token)) tokens answer = (length tokens ≡ token_limit) × (answer ≡ Err (TooMany token.line))

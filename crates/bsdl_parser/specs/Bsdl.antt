@@ -249,9 +249,10 @@ pub record Items : Type 0 where
 abbrev pub no_items : Items
 no_items = record { has_generic = false; fallback = None; has_port = false; ports = []; uses = []; constants = []; attributes = [] }
 
--- The kind of item that the word begins, or None if no item begins with the word or this item may
--- not follow the items `before`. A file has at most one generic item and at most one port item. The
--- word `end` begins no item but ends them, and both of these items must come before it.
+-- The kind of item that begins with the word, or `End` if the word is `end`, which follows the last
+-- item. A file has exactly one generic item and one port item. So the result is None if the word
+-- begins a second generic or port item, or if the word is `end` and one of them is missing in
+-- `before`. The result is also None for any word that begins no item.
 abbrev pub item_word : Items → List ℕ → Option ItemWord
 item_word before word =
     if bytes_eq word (codes "GENERIC") then some_if (not before.has_generic) words.Generic else

@@ -23,7 +23,7 @@ pub enum Section {
     Reasons,
     /// The untested pins of covered nets in one role, as drivers or as receivers.
     Untested(PinUse),
-    /// The pairs of covered nets that are not paired.
+    /// Any two covered nets that are not *paired*: no safe setting observes both.
     Pairs,
 }
 

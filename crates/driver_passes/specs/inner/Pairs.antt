@@ -24,13 +24,15 @@ pub record ArePairing (board : RawBoard) (pairing : Pairing) : Type 0 where
   pub left_length : length pairing.left ≡ length board.nets / 64 + 1
   pub always : AreShownByAll board pairing.passes.items pairing.always
 
--- Among the nets from net `a` on, `left` has exactly those that no pass shows together with net `a`. Earlier nets may be in `left` or not.
+-- For each net n from net `a` on, `left` contains net n if and only if no pass shows both net `a` and net n. Nets before net `a` may be in
+-- `left` or not.
 abbrev pub AreLeft : RawBoard → List (List Ctl) → ℕ → List ℕ → Type 0
 AreLeft board passes a left =
     (n : ℕ) → a ≤ n → n < length board.nets
     → is_in left n ≡ not (are_shown passes (drivers_at board a) (drivers_at board n))
 
--- Net `a` is the current net, that is, the net for which passes are being added. `pairing.left` has the nets that `AreLeft` says.
+-- The state of a `Pairing` while passes are added for net `a`, the current net. `left` says which nets from net `a` on still have no pass
+-- that shows them together with net `a`.
 pub record LooksAt (board : RawBoard) (pairing : Pairing) (a : ℕ) : Type 0 where
   pub are : ArePairing board pairing
   pub net : a < length board.nets
