@@ -153,7 +153,7 @@ impl Board {
     {
         match self.raw().nets.as_slice().get(net as usize) {
             None => &[],
-            Some(net) => net.name.bytes(),
+            Some(found) => found.name.bytes(),
         }
     }
 
