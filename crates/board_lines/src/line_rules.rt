@@ -13,6 +13,7 @@ use crate::selection::{missing, spot_at};
 use board_files::{ChainLine, ChainStatement};
 use first_places::first_values;
 use indexmap::IndexMap;
+use lists::push_some;
 use short_lists::ShortSlice;
 use std::alloc::{AllocError, Global};
 
@@ -130,9 +131,7 @@ pub fn pulls_of<'a>(
 {
     let mut pulls = Vec::new(alloc);
     for line in lines {
-        if let Some(pull) = pull_of_line(&line.statement) {
-            pulls.push(pull)?;
-        }
+        push_some(&mut pulls, pull_of_line(&line.statement))?;
     }
     Ok(pulls)
 }

@@ -10,6 +10,7 @@ use board_defs::Name;
 use board_files::{ChainLine, ChainStatement};
 use first_places::{first_places, first_repeat, numbered};
 use indexmap::IndexMap;
+use lists::push_some;
 use short_lists::ShortSlice;
 use std::alloc::{AllocError, Global};
 
@@ -51,9 +52,8 @@ pub fn named<'a>(
 {
     let mut list = Vec::new(alloc);
     for line in lines {
-        if let Some(name) = name_of(&line.statement, naming) {
-            list.push((line.line, name.bytes()))?;
-        }
+        let name = name_of(&line.statement, naming);
+        push_some(&mut list, name.map(|name| (line.line, name.bytes())))?;
     }
     Ok(list)
 }

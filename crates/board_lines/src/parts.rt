@@ -100,9 +100,7 @@ pub fn described_names<'a>(alloc: Global, parts: &'a [Part]) -> Result<Vec<&'a [
 {
     let mut names = Vec::new(alloc);
     for part in parts {
-        if let Some(name) = described_name(part) {
-            names.push(name)?;
-        }
+        push_some(&mut names, described_name(part))?;
     }
     Ok(names)
 }

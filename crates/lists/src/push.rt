@@ -1,4 +1,5 @@
-// Appending an item to a vector under a condition.
+// Functions that append an item to a vector: `push_if` if a condition is true, and `push_some` if
+// there is an item.
 ghost use Rattle.std.specs.Prelude.{◌≡◌, ◌++◌, ◌∷◌, [], if◌then◌else◌, OnOk};
 ghost use Rattle.std.specs.Option.{option_to_list};
 

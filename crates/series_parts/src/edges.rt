@@ -7,6 +7,7 @@ ghost use Rattle.series_parts.specs.inner.Edges.{edge_between, edge_of, edge_on,
 use crate::names::Names;
 use crate::pins::Pins;
 use board_files::{ChainLine, ChainStatement};
+use lists::push_some;
 use std::alloc::{AllocError, Global};
 
 /// Returns the edge between two ends, or None if an end is missing.
@@ -52,9 +53,7 @@ fn push_link_edges(
     ensures { OnOk result (edges.new.items ≡ edges.old.items ++ link_edges pins.now lines.now) }
 {
     for line in lines {
-        if let Some(edge) = edge_on(pins, &line.statement) {
-            edges.push(edge)?;
-        }
+        push_some(edges, edge_on(pins, &line.statement))?;
     }
     Ok(())
 }
