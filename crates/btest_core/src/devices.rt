@@ -20,6 +20,7 @@ use board_defs::Device;
 use board_files::{ChainFile, ChainLine, ChainStatement};
 use bsdl_parser::Entity;
 use device_check::{DeviceFault, device};
+use lists::push_some;
 use short_lists::{ShortSlice, TextList, TextSlice};
 use std::alloc::{AllocError, Global};
 
@@ -171,9 +172,7 @@ fn packages<'a>(alloc: Global, lines: &'a [ChainLine]) -> Result<Vec<Option<&'a 
 {
     let mut list = Vec::new(alloc);
     for line in lines {
-        if let Some(package) = package_in(&line.statement) {
-            list.push(package)?;
-        }
+        push_some(&mut list, package_in(&line.statement))?;
     }
     Ok(list)
 }
