@@ -7,3 +7,4 @@ mod TextLemmas
 mod LawLemmas
 mod OwnLemmas
 mod SampleTests
+mod SampleBlocks

@@ -28,10 +28,10 @@ lines_in texts = flat_map lines_of_block texts
 abbrev IsBlank : List ℕ → Type 0
 IsBlank line = words_of line ≡ []
 
-abbrev HasTitle : BlockText → Type 0
+abbrev pub HasTitle : BlockText → Type 0
 HasTitle text = IsTitle text.title
 
-abbrev HasRows : BlockText → Type 0
+abbrev pub HasRows : BlockText → Type 0
 HasRows text = All IsNoTitle text.below
 
 abbrev Names : BlockText → Type 0

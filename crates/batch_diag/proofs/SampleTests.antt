@@ -94,7 +94,7 @@ too_long_id = refl
 abbrev named : List ℕ → Net
 named name = record { name = name; supply = false; pull = None; pins = [] }
 
-abbrev two_nets : RawBoard
+abbrev pub two_nets : RawBoard
 two_nets = record { chain = []; nets = named (codes "A") ∷ named (codes "B") ∷ [] }
 
 title : title_line (codes "A") ≡ codes "BOARD A\n"

@@ -3,3 +3,4 @@ mod FaultLemmas
 mod LawLemmas
 mod FoundLemmas
 mod Samples
+mod SampleLists
