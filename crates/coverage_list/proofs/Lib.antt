@@ -3,4 +3,5 @@ mod CoverLemmas
 mod NetLemmas
 mod Samples
 mod SampleLines
+mod SampleTruth
 pub mod TruthLemmas

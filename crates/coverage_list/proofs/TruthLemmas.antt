@@ -15,7 +15,7 @@ abbrev tested_as : RawBoard → PinUse → Net → ℕ → Bool
 tested_as board Driver net place = is_tested_driver board net place
 tested_as board Receiver net place = is_tested_receiver board net place
 
-abbrev decided : RawBoard → CoverAnswers
+abbrev pub decided : RawBoard → CoverAnswers
 decided board = record { covered = is_covered board; reason = reason_of board; tested = tested_as board; paired = are_paired board }
 
 tested_truly : (board : RawBoard) → DecidesTerms board
