@@ -9,3 +9,4 @@ pub mod Pulled
 pub mod UsefulLemmas
 pub mod Marks
 pub mod Contended
+mod SampleFacts
