@@ -14,3 +14,4 @@ pub mod PutRows
 pub mod PairWords
 pub mod UnpairedWords
 pub mod UsefulDrivers
+mod SampleControls
