@@ -16,3 +16,4 @@ pub mod SeenLemmas
 pub mod PlanLemmas
 pub mod SteadyLemmas
 mod Samples
+mod SamplePlans
