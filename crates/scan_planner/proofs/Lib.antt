@@ -6,3 +6,4 @@ pub mod FillLemmas
 pub mod NextLemmas
 pub mod NumberedLemmas
 mod Samples
+mod SampleLaws
