@@ -5,8 +5,8 @@ use Rattle.board_defs.specs.declared.device.Mode.TheVariants.{Inward}
 use Rattle.bsdl_parser.specs.declared.entity.Port.{Port}
 use Rattle.bsdl_parser.specs.declared.entity.Range.{Range}
 use Rattle.bsdl_strings.specs.declared.values.PortWord.TheVariants.{Star, Plain, Index}
-use Rattle.device_rules.specs.Ports.{bit_number, bit_total}
-use Rattle.device_rules.specs.inner.Index.{AreBitStarts, index_place}
+use Rattle.device_rules.specs.Ports.{bit_number, bit_total, v2}
+use Rattle.device_rules.specs.inner.Index.{AreBitStarts, IsIndex, index_place}
 
 abbrev port : List ℕ → Option Range → Port
 port name range = record { name = name; mode = Inward; range = range }
@@ -43,6 +43,18 @@ starts = record {
 -- a list without the number of all bits as its last item is not a list of starts
 no_last : AreBitStarts ports (0 ∷ 8 ∷ 9 ∷ []) → ⊥
 no_last are = absurd (omega (arith, are.size))
+
+-- port D has 8 bits, so a list with 7 bits before port C is not a list of starts
+wrong_start : AreBitStarts ports (0 ∷ 7 ∷ 9 ∷ 12 ∷ []) → ⊥
+wrong_start are = let before : 7 ≡ 8 = are.each 1 (omega arith) in omega (arith, before)
+
+-- An index of ports has their starts, and its ports keep rule V2. So no two of them have the same name.
+index_without_last : IsIndex ports (0 ∷ 8 ∷ 9 ∷ []) → ⊥
+index_without_last index = no_last index.counted
+
+port_twice : IsIndex (port (codes "D") None ∷ port (codes "D") None ∷ []) (0 ∷ 1 ∷ 2 ∷ []) → ⊥
+unfolding v2
+port_twice index = let broken : Some 2 ≡ None = index.rule in cc broken
 
 -- if there are no ports, the only item is the number of all bits, which is 0
 no_ports : AreBitStarts [] (0 ∷ [])
