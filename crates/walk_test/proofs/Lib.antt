@@ -15,3 +15,4 @@ mod MemberLemmas
 mod DigitLemmas
 mod MaskLemmas
 mod ReadLemmas
+mod SampleLengths
