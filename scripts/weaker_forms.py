@@ -141,8 +141,9 @@ def functions_of(path: str, text: str) -> Iterator[Function]:
     lines, holder, is_of_trait = text.split("\n"), "", False
     for at, line in enumerate(lines):
         if line.startswith(("impl", "unsafe impl", "trait", "pub trait", "pub(crate) trait")):
-            block, other = IMPL.match(line), TRAIT_OF.search(line)
-            holder, is_of_trait = (block or other or "??")[1], not block
+            # IMPL also matches `impl From<A> for B<T> {`, so a trait's name comes first.
+            of_trait, block = TRAIT_OF.search(line), IMPL.match(line)
+            holder, is_of_trait = (of_trait or block or "??")[1], bool(of_trait or not block)
         elif line == "}":
             holder, is_of_trait = "", False
         found = FUNCTION.match(line)

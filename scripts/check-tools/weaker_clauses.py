@@ -60,6 +60,24 @@ impl""", """bool {
 }
 
 impl""")
+OF_TRAITS = """impl From<Few> for Stop<'_> {
+    fn from(few: Few) -> Self {
+        Stop::At(few)
+    }
+}
+
+impl<T: Drop> From<Kept<T>> for Stop<'_> {
+    fn from(kept: Kept<T>) -> Self {
+        Stop::Kept
+    }
+}
+
+impl<T: From<Few>> Stop<T> {
+    pub fn size(&self) -> usize {
+        0
+    }
+}
+"""
 RECORD = """-- a pair
 pub record IsPair (a b : ℕ) : Type 0 where
   pub first : a ≡ 1
@@ -356,6 +374,9 @@ def check(_program):
     functions = list(weaker_forms.functions_of('src/a.rt', SOURCE))
     forms = list(weaker_forms.forms_of_functions('high', 'src/a.rt', SOURCE))
     yield 'the forms of an equivalence and of another clause', lambda: same([it.title() for it in forms], TITLES)
+    found = [(it.title(), it.is_of_trait) for it in weaker_forms.functions_of('src/stop.rt', OF_TRAITS)]
+    wanted = [('Stop::from', True), ('Stop::from', True), ('Stop::size', False)]
+    yield 'methods of traits that have parameters', lambda: same(found, wanted)
     less = weaker_forms.with_bodies(SOURCE, functions, [forms[-1]], {'Pair::own'})
     yield 'a function that states less, beside stand-ins', lambda: same(less, LESS)
     even_less = [it.title() for it in forms if it.says_less(forms[0])]
