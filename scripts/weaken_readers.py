@@ -7,7 +7,7 @@ import time
 from typing import Dict, List, Set, Tuple
 
 from stand_ins import Room, read
-from weaker_forms import Form, Function, declared, functions_of, is_head
+from weaker_forms import Form, Function, declared, functions_of, heads
 
 Key = Tuple[str, str, str]
 MOST = 240  # characters of a message
@@ -108,9 +108,9 @@ class Reader:
         """Returns the name and the lines of what is declared at a line of a file of the room."""
         text = self.text_of(path)
         lines = text.split("\n")
-        heads = [place for place, it in enumerate(lines) if is_head(it)]
-        first = max((it for it in heads if it < at), default=0)
-        last = min((it for it in heads if it >= at), default=len(lines))
+        places = heads(lines)
+        first = max((it for it in places if it < at), default=0)
+        last = min((it for it in places if it >= at), default=len(lines))
         return owner_at(path, text, at - 1), "\n".join(lines[first:last])
 
     def place(self, path: str) -> str:

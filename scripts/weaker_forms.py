@@ -13,8 +13,9 @@ CAPITALS = re.compile(r"\b[A-Z]\w*")
 DECLARED = re.compile(
     r"^(?:(?:pub(?:\(\w+\))?|abbrev|unfoldable|record|data|struct|enum) )*([A-Z]\w*)"
 )
-ANY_RECORD = re.compile(r"(?:pub )?record (\w+)")
-ANY_FIELD = re.compile(r"  (?:pub )?(\w+) :")
+ANY_RECORD = re.compile(r"(?:pub )?record \w")
+ANY_FIELD = re.compile(r"^  (?:pub )?(\w+) :", re.MULTILINE)
+DEEPEST = 999  # an indent that no line has
 
 
 class Names(NamedTuple):
@@ -233,13 +234,17 @@ def without_line(text: str, form: Form) -> str:
 
 
 def declarations(text: str) -> Iterator[Tuple[str, str]]:
-    """Returns what a file declares under names with a capital letter, with the lines of each."""
+    """Returns what a file declares under names with a capital letter, with the lines of each.
+
+    The lines have the indent that they would have outside of a module.
+    """
     lines = text.split("\n")
-    heads = [at for at, line in enumerate(lines) if is_head(line)]
-    for first, last in zip(heads, [*heads[1:], len(lines)]):
-        name = DECLARED.match(lines[first])
+    places = heads(lines)
+    for first, last in zip(places, [*places[1:], len(lines)]):
+        indent = indent_of(lines[first])
+        name = DECLARED.match(lines[first][indent:])
         if name:
-            yield name[1], "\n".join(lines[first:last])
+            yield name[1], "\n".join(line[indent:] for line in lines[first:last])
 
 
 def with_names(text: str, names: Set[str], end: str, right: Set[Tuple[str, str]]) -> str:
@@ -249,8 +254,9 @@ def with_names(text: str, names: Set[str], end: str, right: Set[Tuple[str, str]]
     """
     word = re.compile(rf"(?<=[\w)\]}}])\.({'|'.join(sorted(names))})(?![\w-])")
     lines, now = text.split("\n"), ""
+    places = set(heads(lines))
     for at, line in enumerate(lines):
-        now = declared([line]) if is_head(line) else now
+        now = named_at(line) if at in places else now
         if not line.startswith(("use ", "pub use ")):
             lines[at] = word.sub(lambda it: it[0] + end * ((now, it[1]) not in right), line)
     return "\n".join(lines)
@@ -258,14 +264,37 @@ def with_names(text: str, names: Set[str], end: str, right: Set[Tuple[str, str]]
 
 def declared(lines: List[str]) -> str:
     """Returns the name of the last declaration that begins in these lines of a file."""
-    heads = [it for it in lines if is_head(it)]
-    words = re.sub(r"^(pub |abbrev |unfoldable |record )*", "", heads[-1]) if heads else ""
-    return words.split(" ")[0]
+    places = heads(lines)
+    return named_at(lines[places[-1]]) if places else ""
 
 
-def is_head(line: str) -> bool:
-    """Returns whether a declaration begins at a line of a file."""
-    return line[:1] not in ("", " ", "-", "/", "#", "}", ")")
+def named_at(head: str) -> str:
+    """Returns the name of the declaration that begins at a line."""
+    return re.sub(r"^ *(pub |abbrev |unfoldable |record )*", "", head).split(" ")[0]
+
+
+def indent_of(line: str) -> int:
+    """Returns how many spaces a line begins with."""
+    return len(line) - len(line.lstrip(" "))
+
+
+def heads(lines: List[str]) -> List[int]:
+    """Returns the lines of a file at which declarations begin, also those inside a module.
+
+    The first line after the head of a module says how far the module's declarations are indented.
+    """
+    found: List[int] = []
+    depth, is_module = 0, False  # the indent of declarations, and whether a module's head goes on
+    for at, line in enumerate(lines):
+        indent = indent_of(line)
+        if line[indent : indent + 1] not in ("", "-", "/", "#", "}", ")"):
+            depth = min(depth, indent)
+            if indent == depth:
+                found.append(at)
+                is_module = line.startswith("module ", indent)
+        if is_module and line.endswith("where"):
+            depth, is_module = DEEPEST, False
+    return found
 
 
 class Record(NamedTuple):
@@ -280,16 +309,9 @@ Literals = Dict[FrozenSet[str], List[Record]]  # of the fields that a literal gi
 
 def records_of(text: str) -> Iterator[Record]:
     """Returns the records that a file of specs/ or proofs/ declares."""
-    name, names = "", set()
-    for line in [*text.split("\n"), "end"]:
-        field = ANY_FIELD.match(line)
-        if name and field:
-            names.add(field[1])
-        elif line[:1] not in ("", " "):
-            if name:
-                yield Record(name, frozenset(names))
-            head = ANY_RECORD.match(line)
-            name, names = head[1] if head else "", set()
+    for name, lines in declarations(text):
+        if ANY_RECORD.match(lines):
+            yield Record(name, frozenset(ANY_FIELD.findall(lines)))
 
 
 def needing(text: str, form: Form) -> str:

@@ -199,6 +199,47 @@ USING = {
     'one': 'returns : IsPair 1 1\nreturns c = c.first\n',
     'sizes': 'returns : IsPair 1 1\nreturns c = by_search_of_all c\n',
 }
+# Modules, one of them in another, and one with a head of several lines.
+MODULES = """module _ (a : Other) where
+  pub record IsKept (b : ℕ)
+      : Type 0 where
+    pub kept : a.first_misnamed ≡ b
+
+-- the fields of `a`
+  f : ℕ
+  f = a.first
+    where
+      g : ℕ
+      g = a.second
+
+  module _ (b : Other) (e : b.first ≡ a.first) where
+    h : b.first ≡ a.first
+    h = e
+
+  i : ℕ
+  i = a.first_misnamed
+
+module _
+  (c : Other)
+  where
+    j : ℕ
+    j = c.second_misnamed
+
+k : ℕ
+k = 0
+"""
+MODULES_CHECK = """proofs/B.antt:11:13: error: `g`: record `Other` has no field `second_misnamed`
+proofs/B.antt:14:11: error: `h`: record `Other` has no field `first_misnamed`
+proofs/B.antt:18:7: error: `i`: expected another type
+"""
+# An error is of one declaration, and the names in the others stay wrong.
+MODULES_READ = (
+    {
+        'Other.first: nothing': 'refused by high/proofs/B.antt h',
+        'Other.second: nothing': 'refused by high/proofs/B.antt f',
+    },
+    [('proofs/B.antt', 'f', 'second'), ('proofs/B.antt', 'h', 'first'), ('proofs/B.antt', 'i', 'first')],
+)
 PROOFS = {
     'one': 'returns c = sym c.twice.ensures\n',
     'both': 'returns c = c.in-size.ensures.most\n\nother c = c.size.ensures.of_kit c.twice.result\n',
@@ -268,15 +309,15 @@ def read_check():
         return found
 
 
-def read_fields():
+def read_fields(lemmas, text):
     """What is read from a check with wrong names of fields, and which names are right after it."""
     with room() as made:
-        forms = list(weaker_forms.forms_of_records('high', 'specs/A.antt', RECORD))
+        forms = list(weaker_forms.forms_of_records('high', 'specs/A.antt', RECORD + '  pub second : ℕ\n'))
         namers = weaken_fields.Namers(made, 'high', weaken_readers.Outcomes(forms))
         folder = pathlib.Path(made.top) / 'high' / 'crates' / 'high' / 'proofs'
         folder.mkdir(parents=True)
-        (folder / 'B.antt').write_text(LEMMAS, encoding='utf-8')
-        found = namers.reads(forms, FIELDS_CHECK)
+        (folder / 'B.antt').write_text(lemmas, encoding='utf-8')
+        found = namers.reads(forms, text)
         return {it.title(): who for it, who in found.items()}, sorted(namers.right)
 
 
@@ -402,7 +443,15 @@ def check(_program):
     yield 'wrong names of fields', lambda: same(wrong, LEMMAS)
     partly = weaker_forms.with_names(LEMMAS.replace('_misnamed', ''), {'first', 'second'}, '_misnamed', {('f', 'first')})
     yield 'wrong names but one', lambda: same(partly, LEMMAS.replace('first_misnamed', 'first'))
-    yield 'what a check says of wrong names', lambda: same(read_fields(), FIELDS_READ)
+    yield 'what a check says of wrong names', lambda: same(read_fields(LEMMAS, FIELDS_CHECK), FIELDS_READ)
+    lemmas = MODULES.replace('_misnamed', '')
+    right = {(who, name) for who in ('f', 'h', 'module') for name in ('first', 'second')}
+    wrong = weaker_forms.with_names(lemmas, {'first', 'second'}, '_misnamed', right)
+    yield 'wrong names in modules', lambda: same(wrong, MODULES)
+    misnamed = weaker_forms.with_names(lemmas, {'first', 'second'}, '_misnamed', set())
+    yield 'what a check says of declarations in modules', lambda: same(read_fields(misnamed, MODULES_CHECK), MODULES_READ)
+    inside = [(it.name, sorted(it.fields)) for it in weaker_forms.records_of(lemmas)]
+    yield 'a record in a module', lambda: same(inside, [('IsKept', ['kept'])])
     settled, checks, orders = all_at_once()
     yield 'a field that only an answer names, and errors that are about none', lambda: same(settled, ALL_AT_ONCE[0])
     yield 'records that keep a field, and functions that become stand-ins', lambda: same(checks, ALL_AT_ONCE[1])
