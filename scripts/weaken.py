@@ -21,18 +21,26 @@ form of them. If it is not proved and its proof doesn't name the clause that it 
 are tried one by one. Callers in the crate itself come first, then those in the crates above it,
 from below. A clause that a caller's proof cites needs no round.
 
+At first one caller of each form is tried. Then all clauses that are left are dropped at once. The
+check is of the whole crate, and none of its functions is a stand-in. An error in a caller's proof
+may name the clause that is missing. If only one of the functions that the caller calls lacks a
+clause of this name, the clause comes back. The crate is checked again, until no error names such a
+clause. Then the other callers are tried. Those come first that were not proved when all clauses
+were dropped. The others follow, and none is left out: a caller that was proved may still need a
+clause, since its own promise lost clauses too.
+
 A field is needed by each declaration that names it after a dot. To find out which record a name is
 of, a round writes wrong names in a crate, and the error of a declaration says which record has no
 such field. This needs no check of the crates below. First definitions, lemmas and samples are
 tried, and at a later step functions whose proofs name a field. A field that a later field of its
 record names needs no round.
 
-Between these two steps, all fields that are left are dropped at once. A record keeps at least one.
-The check is of the whole crate, and none of its functions is a stand-in. The error of a declaration
-or a clause says which record has no such field. The fields that errors name come back, and the
-crate is checked again, until no error names a field. Definitions, lemmas and samples come before
-this step, since an error in one of them hides what depends on it. Functions whose proofs name a
-field come after it, since it leaves few fields to them.
+Between these two steps, all fields that are left are dropped at once, as clauses are. A record
+keeps at least one. The error of a declaration or a clause says which record has no such field. The
+fields that errors name come back, and the crate is checked again, until no error names a field.
+Definitions, lemmas and samples come before this step, since an error in one of them hides what
+depends on it. Functions whose proofs name a field come after it, since it leaves few fields to
+them.
 
 At last, records without their fields are tried over functions that may use them, as functions are
 that state less. The prover's tactics use fields without naming them. So the functions come first
@@ -72,7 +80,16 @@ from weaken_fields import Namers, Users
 from weaken_readers import Outcomes, kept_in, name_of, owner_at
 from weaker_forms import Form
 
-STEPS = ("likely names", "likely calls", "declarations", "at once", "names", "calls", "records")
+STEPS = (
+    "likely names",
+    "likely calls",
+    "clauses at once",
+    "declarations",
+    "fields at once",
+    "names",
+    "calls",
+    "records",
+)
 FEW = 1  # callers of a form that are tried in a crate before any others
 
 
@@ -126,7 +143,9 @@ class Work:
         """Takes a step at a crate."""
         if step in ("likely names", "declarations"):
             Namers(self.room, name, self.outcomes).settles_declared(step == "likely names")
-        elif step == "at once":
+        elif step == "clauses at once":
+            Callers(self.room, name, self.outcomes).drops_all()
+        elif step == "fields at once":
             Users(self.room, name, self.outcomes).drops_all()
         elif step == "names":
             Namers(self.room, name, self.outcomes).settles()

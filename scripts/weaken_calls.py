@@ -1,18 +1,19 @@
 """Asks crates what their functions say to weaker forms of functions that they call."""
 import re
 import time
-from typing import Dict, List, NamedTuple, Optional, Set, Tuple
+from typing import Dict, Iterator, List, NamedTuple, Optional, Set, Tuple
 
 import weaker_forms
 from stand_ins import Room
+from weaken_at_once import AtOnce
 from weaken_readers import (
     CASCADES,
     ERROR,
     FAILED,
+    REFUSED,
     UNTRIED,
     Key,
     Outcomes,
-    Reader,
     first_error,
 )
 from weaker_forms import Form, Function
@@ -35,7 +36,7 @@ class Trial(NamedTuple):
         return self.forms[0].key()
 
 
-class Witnesses(Reader):
+class Witnesses(AtOnce):
     """Functions of a crate that may refuse forms.
 
     A witness that calls another one would fail with it, so no witness of a round does.
@@ -61,7 +62,7 @@ class Witnesses(Reader):
 
     def check(self, forms: List[Form], real: List[Function]) -> str:
         """Checks functions of the crate, which are no stand-ins."""
-        raise NotImplementedError
+        return self.check_only(forms, real, sorted({self.crate.path_of(it) for it in real}))
 
     def cited(self, witness: Function, text: str, forms: List[Form]) -> List[Form]:
         """Returns those of some forms that a text of a witness's proof cites."""
@@ -121,17 +122,21 @@ class Witnesses(Reader):
 
         The error of such a declaration names a clause, or it cites the only one that is tried.
         """
-        folder = f"proofs/{'/'.join(self.crate.place(trial.witness))}/"
         found: Dict[Form, str] = {}
+        for who, lines, said in self.errors(trial.witness, text):
+            cited = self.cited(trial.witness, lines, list(trial.forms))
+            is_cited = len(cited) == 1 and "Unit" in said
+            for form in lacked(list(trial.forms), said) or (cited if is_cited else []):
+                found[form] = f"{REFUSED} {who}"
+        return found
+
+    def errors(self, witness: Function, text: str) -> Iterator[Tuple[str, str, str]]:
+        """Returns the declarations of a witness's proof with errors, their lines and the errors."""
+        folder = f"proofs/{'/'.join(self.crate.place(witness))}/"
         for it in ERROR.finditer(text):
             if it[1].startswith(folder) and not any(word in it[3] for word in CASCADES):
                 name, lines = self.declaration(it[1], int(it[2]))
-                lacks = LACKS.search(it[3])
-                named = [form for form in trial.forms if lacks and form.clause == lacks[1]]
-                cited = self.cited(trial.witness, lines, list(trial.forms))
-                for form in named or (cited if len(cited) == 1 and "Unit" in it[3] else []):
-                    found[form] = f"refused by {self.crate.name}/{it[1]} {name}"
-        return found
+                yield f"{self.crate.name}/{it[1]} {name}", lines, it[3]
 
     def tries(self, trials: List[Trial]) -> Dict[Trial, Tuple[str, Dict[Form, str]]]:
         """Returns how each witness refused its forms, and which ones its proof misses.
@@ -217,6 +222,12 @@ class Witnesses(Reader):
         return {**found, **{it: f"{found[form]}, as is more" for it, form in less.items()}}
 
 
+def lacked(forms: List[Form], said: str) -> List[Form]:
+    """Returns those of some forms whose clause an error says to be missing."""
+    lacks = LACKS.search(said)
+    return [it for it in forms if lacks and it.clause == lacks[1]]
+
+
 class Callers(Witnesses):
     """What the functions of a crate say to weaker forms of functions that they call."""
 
@@ -231,14 +242,34 @@ class Callers(Witnesses):
         self.of = {it: self.witnesses(it) for it in self.forms}
         outcomes.called |= {it for it, found in self.of.items() if found}
 
-    def check(self, forms: List[Form], real: List[Function]) -> str:
-        """Checks functions of the crate, which are no stand-ins."""
-        name, sources = self.crate.name, self.sources(self.forms)
-        for each in (*sources, name):
-            texts = self.room.crates[each].with_stand_ins(forms, real if each == name else [])
-            self.room.lays_out(name, each, texts)
-        only = sorted({self.crate.path_of(it) for it in real})
-        return self.room.check(name, sources, only)
+    def check_only(self, forms: List[Form], real: List[Function], only: List[str]) -> str:
+        """Checks some paths of the crate, or all, with some functions that are no stand-ins."""
+        return self.checked(self.with_stand_ins(self.sources(self.forms), forms, real), only)
+
+    def dropped(self) -> List[Form]:
+        """Returns, of each clause that is left and that a function here may need, the least form.
+
+        This form drops the clause, even if only a direction of the clause is left.
+        """
+        left = [it for it in self.outcomes.left(self.forms) if self.of[it]]
+        return list(dict.fromkeys(it._replace(label="nothing", left=()) for it in left))
+
+    def missed(self, forms: List[Form], text: str) -> Dict[Form, str]:
+        """Returns the forms, of those that a check had at once, that errors of callers name.
+
+        A name says enough if only one function that the caller calls lacks a clause of this name.
+        If the caller itself lacks one, the error may be about its own clause.
+        """
+        left = set(self.outcomes.left(self.forms))
+        found: Dict[Form, str] = {}
+        for it in self.functions:
+            own = self.key(it)
+            near = [form for form in forms if form.key() in self.needs[it] | {own}]
+            for who, _, said in self.errors(it, text):
+                named = lacked(near, said)
+                if len(named) == 1 and named[0].key() != own and named[0] in left:
+                    found.setdefault(named[0], f"{REFUSED} {who}")
+        return found
 
     def owner(self, form: Form) -> Function:
         """Returns the function that a form weakens."""
@@ -279,14 +310,17 @@ class Callers(Witnesses):
     def witnesses(self, form: Form) -> List[Function]:
         """Returns the functions that call a form's function, the likeliest to refuse it first.
 
-        Those come first whose proofs cite the clause, then those that share names with it.
+        Those come first that failed without all clauses, then those whose proofs cite the clause,
+        and then those that share names with it.
         """
         clause = self.owner(form).clauses[form.number]
         words = set(WORD.findall(" ".join(clause))) - COMMON
         found = [it for it in self.functions if form.key() in self.needs[it]]
         cites = {it: form in self.cited(it, self.proofs[it], [form]) for it in found}
         shared = {it: len(words & self.words[it]) for it in found}
-        return sorted(found, key=lambda it: (not cites[it], -shared[it], len(self.crate.body(it))))
+        size = {it: len(self.crate.body(it)) for it in found}
+        late = {it: it not in self.failed for it in found}
+        return sorted(found, key=lambda it: (late[it], not cites[it], -shared[it], size[it]))
 
     def cited(self, witness: Function, text: str, forms: List[Form]) -> List[Form]:
         """Returns those of some forms whose clause a text of a witness's proof cites."""

@@ -7,11 +7,10 @@ from typing import Dict, List, Set, Tuple
 import weaker_forms
 from stand_ins import Crate, Room
 from weaken_calls import Witnesses
-from weaken_readers import CASCADES, ERROR, FAILED, Outcomes, Reader
+from weaken_readers import CASCADES, ERROR, Outcomes, Reader
 from weaker_forms import Form, Function, Literals, Record
 
 MISNAMED = "_misnamed"
-CALLS = "it calls"  # in what is said of a function that calls one which is not proved
 SOME = 24  # functions of a round
 
 
@@ -96,8 +95,7 @@ class Namers(Reader):
         for path, text in texts.items():
             if path.endswith(".antt"):
                 texts[path] = weaker_forms.with_names(text, names, MISNAMED, self.right_in(path))
-        self.room.lays_out(self.crate.name, self.crate.name, texts)
-        return self.room.check(self.crate.name, set(), sorted(map(self.crate.path_of, real)))
+        return self.checked({self.crate.name: texts}, sorted(map(self.crate.path_of, real)))
 
     def right_in(self, path: str) -> Set[Tuple[str, str]]:
         """Returns the names of fields that stay right in a file, with those of declarations."""
@@ -128,13 +126,7 @@ class Namers(Reader):
 
 
 class Users(Witnesses):
-    """What functions say to a record without a field that nothing names, if they may use it.
-
-    Before that, all fields that are left are dropped at once, and the whole crate is checked with
-    all its functions. If a declaration names such a field, its error says so. A function that is
-    proved may need one of the fields nevertheless, since its own promise lost fields too. So this
-    refuses fields and says which witnesses are tried first, but it rules none of them out.
-    """
+    """What functions say to a record without a field that nothing names, if they may use it."""
 
     def __init__(self, room: Room, name: str, outcomes: Outcomes):
         super().__init__(room, name, outcomes, True)
@@ -145,23 +137,11 @@ class Users(Witnesses):
         reach, owners = Reach(room, self.crate), {it.owner: it.key() for it in self.forms}
         for it in self.functions:
             self.needs[it] = {key for owner, key in owners.items() if owner in reach.of(it)}
-        failed = outcomes.failed.get(name, set())
+        failed = self.failed
         for form in self.forms:
             users = [it for it in self.functions if form.key() in self.needs[it]]
             users.sort(key=lambda it: (it not in failed, len(self.needs[it]), len(self.proofs[it])))
             self.of[form] = users
-
-    def drops_all(self) -> None:
-        """Drops all fields that are left, until no error names one, and notes what fails then."""
-        while gone := self.dropped():
-            since = time.monotonic()
-            text = self.check_all(gone, set())
-            found = self.lacking(gone, text)
-            self.outcomes.settle(found)
-            self.tells(len(gone), len(found), since)
-            if not found:
-                self.outcomes.failed[self.crate.name] = self.failing(gone, text)
-                break
 
     def dropped(self) -> List[Form]:
         """Returns the fields that are left, but the last one of a record that would have none."""
@@ -170,48 +150,24 @@ class Users(Witnesses):
         kept = {it for key, it in last.items() if counts[key] == len(self.record(it).fields)}
         return [it for it in left if it not in kept]
 
-    def failing(self, forms: List[Form], text: str) -> Set[Function]:
-        """Returns the functions that a check of all functions, without some fields, doesn't prove.
-
-        It doesn't try a function that calls such a one. So there are further checks, in which those
-        that fail are stand-ins. A function that no check tries is among those that fail.
-        """
-        failed: Set[Function] = set()
-        while True:
-            said = {it: self.verdicts(it, text) for it in self.functions if it not in failed}
-            bad = {it: [how for how in hows if how.startswith(FAILED)] for it, hows in said.items()}
-            new = {it for it, hows in bad.items() if any(CALLS not in how for how in hows)}
-            waiting = {it for it, hows in bad.items() if hows or not said[it]} - new
-            failed |= new
-            if not new or not waiting:
-                return failed | waiting
-            text = self.check_all(forms, failed)
-
-    def check(self, forms: List[Form], real: List[Function]) -> str:
-        """Checks functions of the crate without some fields of records."""
-        return self.check_only(forms, real, sorted(map(self.crate.path_of, real)))
-
-    def check_all(self, forms: List[Form], failed: Set[Function]) -> str:
-        """Checks the whole crate without some fields, with stand-ins for functions that fail."""
-        every = [it for each in self.crate.functions.values() for it in each]
-        return self.check_only(forms, [it for it in every if it not in failed], [])
+    def missed(self, forms: List[Form], text: str) -> Dict[Form, str]:
+        """Returns the fields, of those that a check lacks, that declarations name."""
+        return self.lacking(forms, text)
 
     def check_only(self, forms: List[Form], real: List[Function], only: List[str]) -> str:
         """Checks some paths of the crate, or all, without some fields and with some functions."""
-        name, sources = self.crate.name, self.sources(forms)
         gone: Dict[Record, Set[str]] = defaultdict(set)
         for it in forms:
             gone[self.record(it)].add(it.clause)
-        for each in (*sources, name):
-            texts = self.room.crates[each].with_stand_ins([], real if each == name else [])
+        files = self.with_stand_ins(self.sources(forms), [], real)
+        for each, texts in files.items():
             for it in forms:
                 if it.crate == each:
                     texts[it.path] = weaker_forms.without_line(texts[it.path], it)
             for path, text in texts.items():
                 if path.endswith(".antt"):
                     texts[path] = weaker_forms.without_fields(text, gone, self.literals)
-            self.room.lays_out(name, each, texts)
-        return self.room.check(name, sources, only)
+        return self.checked(files, only)
 
     def record(self, form: Form) -> Record:
         """Returns the record that has a field."""

@@ -32,8 +32,8 @@ class Outcomes:
         self.settled: Dict[Form, str] = {}
         self.called: Set[Form] = set()  # forms of functions that some function calls
         self.untried: Dict[Form, str] = {}  # forms that could not be tried somewhere, and why
-        # Of each crate, functions that aren't proved if it lacks all fields at once.
-        self.failed: Dict[str, Set[Function]] = {}
+        # Of each crate, functions that aren't proved if it lacks all clauses, or all fields (True).
+        self.failed: Dict[Tuple[str, bool], Set[Function]] = {}
         # Of each crate, which forms its functions were tried on.
         self.tried: Dict[str, Set[Tuple[Form, Function]]] = {}
 
@@ -103,6 +103,12 @@ class Reader:
     def sources(self, forms: List[Form]) -> Set[str]:
         """Returns the crates below that forms are of, and those between them and this crate."""
         return self.room.between({it.crate for it in forms} - {self.crate.name}, self.crate.name)
+
+    def checked(self, texts: Dict[str, Dict[str, str]], only: List[str]) -> str:
+        """Checks some paths of the crate, or all, with these files of it and of crates below it."""
+        for name, files in texts.items():
+            self.room.lays_out(self.crate.name, name, files)
+        return self.room.check(self.crate.name, set(texts) - {self.crate.name}, only)
 
     def declaration(self, path: str, at: int) -> Tuple[str, str]:
         """Returns the name and the lines of what is declared at a line of a file of the room."""

@@ -194,6 +194,57 @@ fn high::one: no holes
 fn high::other: no holes
 fn high::sizes: depends on a hole in `sizes_spec`
 """]
+# The crates of the checks without all clauses. Of the clause `zero` one direction is left. `half` lacks its own clauses.
+LOW_AT_ONCE = LOW.replace('        ensures least', '        ensures zero { IsTrue result ↔ IsZero self }\n        ensures least')
+HIGH_AT_ONCE = HIGH + """
+pub fn half(few: &Few) -> usize
+    ensures most { result ≤ 1 }
+    ensures less { result ≤ few.size }
+{
+    few.size() / 2
+}
+
+fn quarter(few: &Few) -> usize {
+    half(few) / 2
+}
+
+fn eighth(few: &Few) -> usize {
+    quarter(few) / 2
+}
+"""
+CALLING = {
+    'both': 'returns c = c.size.ensures.most\n\nother c = c.twice.ensures\n',
+    'half': 'returns c = record { most = by_search; less = by_search }\n\nfirst c = record { less = by_search }\n',
+    'sizes': 'returns c = c.size.ensures.zero c.size.ensures.least\n',
+}
+CLAUSES_AT_ONCE = ["""proofs/both/Answers.antt:3:11: error: `other`: expected type `c.k ≡ 2`, but this has type `Unit {0}`
+proofs/half/Answers.antt:1:13: error: `returns`: record `Prim.Unit` has no field `most` — it has no field that can be named here
+proofs/half/Answers.antt:3:11: error: `first`: record `Prim.Unit` has no field `less` — it has no field that can be named here
+proofs/sizes/Answers.antt:1:13: error: `returns`: record `Prim.Unit` has no field `least` — it has no field that can be named here
+fn high::one: not proved
+""", """proofs/sizes/Answers.antt:1:13: error: `returns`: record `{least : ..}` has no field `zero`
+fn high::both: no holes
+fn high::eighth: no proof: it calls `high::quarter`, which is not proved
+fn high::half: not proved
+fn high::one: not proved; it stands on `Rattle.high.proofs.one.Answers.returns`, which antt refuses; it calls `low::twice`, which is not proved
+fn high::other: no proof: it calls `high::one`, which is not proved
+fn high::quarter: no proof: it calls `high::half`, which is not proved
+fn high::sizes: not proved
+""", """fn high::both: no holes
+fn high::eighth: no proof: it calls `high::quarter`, which is not proved
+fn high::half: depends on a hole in `half_spec`
+fn high::one: depends on a hole in `one_spec`
+fn high::other: no holes
+fn high::quarter: no proof: `search` did not prove `returns`; it calls `high::half`, which is not proved
+fn high::sizes: depends on a hole in `sizes_spec`
+""", """fn high::both: no holes
+fn high::eighth: no holes
+fn high::half: depends on a hole in `half_spec`
+fn high::one: depends on a hole in `one_spec`
+fn high::other: no holes
+fn high::quarter: depends on a hole in `quarter_spec`
+fn high::sizes: depends on a hole in `sizes_spec`
+"""]
 USING = {
     'both': 'returns : IsPair 1 1\nreturns c = c\n',
     'one': 'returns : IsPair 1 1\nreturns c = c.first\n',
@@ -247,10 +298,10 @@ PROOFS = {
 
 
 @contextlib.contextmanager
-def room(proofs=(), specs=''):
+def room(proofs=(), specs='', low=LOW, high=HIGH):
     """Two crates, one above the other, with some answers of the upper one's functions and records of the lower one."""
     with tempfile.TemporaryDirectory() as top:
-        for name, text in (('low', LOW), ('high', HIGH)):
+        for name, text in (('low', low), ('high', high)):
             folder = pathlib.Path(top) / 'crates' / name / 'src'
             folder.mkdir(parents=True)
             (folder / 'lib.rt').write_text(text, encoding='utf-8')
@@ -342,6 +393,29 @@ def all_at_once():
         return {it.title(): who for it, who in outcomes.settled.items()}, checks, orders
 
 
+def all_clauses_at_once():
+    """What refuses clauses if all are dropped at once, with what each check has and which callers come first before and after."""
+    with room(CALLING, '', LOW_AT_ONCE, HIGH_AT_ONCE) as made:
+        outcomes = weaken_readers.Outcomes([*made.crates['low'].forms(), *made.crates['high'].forms()])
+        most, checks, texts = outcomes.forms[0], [], list(CLAUSES_AT_ONCE)
+        earlier = {it: 'refused earlier' for it in [it for it in outcomes.forms if it.clause == 'zero'][1:]}
+
+        def answer(name, sources, only):
+            codes = [(pathlib.Path(made.top) / name / 'crates' / it / 'src' / 'lib.rt').read_text(encoding='utf-8') for it in ('low', name)]
+            ensured = [sorted(names) for code in codes for names in weaker_forms.clause_names(code).values() if names]
+            checks.append((sorted(sources), only, ensured, [code.count('loop {}') for code in codes]))
+            return texts.pop(0)
+
+        made.check = answer
+        with contextlib.redirect_stdout(io.StringIO()), contextlib.redirect_stderr(io.StringIO()):
+            outcomes.settle(earlier)
+            first = weaken_calls.Callers(made, 'high', outcomes)
+            first.drops_all()
+        orders = [[it.name for it in callers.of[most]] for callers in (first, weaken_calls.Callers(made, 'high', outcomes))]
+        settled = {it.title(): who for it, who in outcomes.settled.items() if it not in earlier}
+        return settled, checks, sorted(it.name for it in first.failed), orders
+
+
 def missed_below():
     """What refuses a field that a clause of the crate below names."""
     with room(USING, RECORD) as made:
@@ -401,6 +475,19 @@ ALL_AT_ONCE = (
     # `both` isn't proved only since it calls `sizes`.
     [['both', 'one', 'sizes'], ['sizes', 'both', 'one']],
 )
+ALL_CLAUSES_AT_ONCE = (
+    {'Few::size.least: nothing': 'refused by high/proofs/sizes/Answers.antt returns'},
+    [
+        (['low'], [], [], [2, 0]),
+        (['low'], [], [['least']], [2, 0]),
+        (['low'], [], [['least']], [2, 3]),
+        (['low'], [], [['least']], [2, 4]),
+    ],
+    # `one` and `quarter` fail though they call stand-ins. `other` and `eighth` only wait for what they call.
+    ['half', 'one', 'quarter', 'sizes'],
+    # A caller that failed comes before one whose proof cites the clause.
+    [['both', 'half', 'sizes'], ['half', 'sizes', 'both']],
+)
 READ = {
     'both': ('', {}),
     'one': ('refused by high::one', {'twice: nothing': 'refused by high/proofs/one/Answers.antt returns'}),
@@ -456,6 +543,11 @@ def check(_program):
     yield 'a field that only an answer names, and errors that are about none', lambda: same(settled, ALL_AT_ONCE[0])
     yield 'records that keep a field, and functions that become stand-ins', lambda: same(checks, ALL_AT_ONCE[1])
     yield 'a function that fails without all fields comes first', lambda: same(orders, ALL_AT_ONCE[2])
+    settled, checks, failed, orders = all_clauses_at_once()
+    yield 'a clause that an error of a caller names, and errors that name none', lambda: same(settled, ALL_CLAUSES_AT_ONCE[0])
+    yield 'clauses that are dropped, and functions that become stand-ins', lambda: same(checks, ALL_CLAUSES_AT_ONCE[1])
+    yield 'functions that fail without all clauses', lambda: same(failed, ALL_CLAUSES_AT_ONCE[2])
+    yield 'a caller that fails without all clauses comes first', lambda: same(orders, ALL_CLAUSES_AT_ONCE[3])
     missed = {'Other.first: nothing': 'refused by low/src/lib.rt Few::size'}
     yield 'a field that a clause of a crate below names', lambda: same(missed_below(), missed)
     missed = {'Other.first: nothing': 'refused by high/proofs/B.antt f'}
