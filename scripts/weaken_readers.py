@@ -99,6 +99,7 @@ class Reader:
         self.forms = outcomes.left(forms)
         self.functions = self.crate.witnesses()
         self.proofs = {it: self.crate.proof(it) for it in self.functions}
+        self.seen: Dict[str, str] = {}  # texts of files that the last check names
 
     def sources(self, forms: List[Form]) -> Set[str]:
         """Returns the crates below that forms are of, and those between them and this crate."""
@@ -108,6 +109,7 @@ class Reader:
         """Checks some paths of the crate, or all, with these files of it and of crates below it."""
         for name, files in texts.items():
             self.room.lays_out(self.crate.name, name, files)
+        self.seen = {}
         return self.room.check(self.crate.name, set(texts) - {self.crate.name}, only)
 
     def declaration(self, path: str, at: int) -> Tuple[str, str]:
@@ -124,8 +126,14 @@ class Reader:
         return os.path.join(self.copy, self.crate.name, path)
 
     def text_of(self, path: str) -> str:
-        """Returns the text of a file that a check names, or nothing if there is no such file."""
-        return read(self.place(path)) if os.path.isfile(self.place(path)) else ""
+        """Returns the text of a file that a check names, or nothing if there is no such file.
+
+        A check can have thousands of errors in a file, so the text is kept until the next check.
+        """
+        if path not in self.seen:
+            file = self.place(path)
+            self.seen[path] = read(file) if os.path.isfile(file) else ""
+        return self.seen[path]
 
     def declared_as(self, path: str, name: str) -> str:
         """Returns the declared name of what a file of the room has under a name."""

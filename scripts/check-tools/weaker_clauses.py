@@ -175,6 +175,14 @@ proofs/B.antt:5:1: error: `g`: expected another type
 proofs/B.antt:7:1: error: 1 declaration that depends on `f`, which was rejected, was not checked
 holes=2
 """
+FILES_CHECK = """proofs/B.antt:2:7: error: `f`: record `Other` has no field `first`
+proofs/B.antt:5:5: error: `g`: record `IsPair` has no field `second`
+"""
+FILES_READ = [
+    (1, 'refused by high/proofs/B.antt f', 'refused by high/proofs/B.antt g'),
+    (1, 'refused by high/proofs/B.antt f', 'refused by high/proofs/B.antt g'),
+    (2, 'refused by high/proofs/B.antt e', 'refused by high/proofs/B.antt g'),
+]
 # The names of `f` that the error doesn't have are tried once more, those of `g` are not.
 FIELDS_READ = (
     {'Other.first: nothing': 'refused by high/proofs/B.antt f'},
@@ -437,6 +445,27 @@ def missed_by_another_name():
         return {it.title(): who for it, who in found.items()}
 
 
+def files_read():
+    """How often files are read for two errors in one of them, for two more after that, and for two after another check."""
+    with room() as made:
+        made.check = lambda *_: ''
+        forms = list(weaker_forms.forms_of_records('high', 'specs/A.antt', RECORD))
+        namers = weaken_fields.Namers(made, 'high', weaken_readers.Outcomes(forms))
+        made.lays_out('high', 'high', {'proofs/B.antt': LEMMAS})
+        paths, read = [], weaken_readers.read
+        weaken_readers.read = lambda path: paths.append(path) or read(path)
+        try:
+            found = []
+            for again in (False, False, True):
+                if again:
+                    namers.checked({'high': {'proofs/B.antt': LEMMAS.replace('f ', 'e ')}}, [])
+                who = namers.lacking(forms, FILES_CHECK)
+                found.append((len(paths), *who.values()))
+        finally:
+            weaken_readers.read = read
+        return found
+
+
 def kept_forms():
     """Which forms a later run leaves out, if one was refused and one was not."""
     with room() as made, tempfile.TemporaryDirectory() as top:
@@ -552,6 +581,7 @@ def check(_program):
     yield 'a field that a clause of a crate below names', lambda: same(missed_below(), missed)
     missed = {'Other.first: nothing': 'refused by high/proofs/B.antt f'}
     yield 'a field of a record with another name', lambda: same(missed_by_another_name(), missed)
+    yield 'a file is read once for each check', lambda: same(files_read(), FILES_READ)
     ends = [(it.body, it.last) for it in weaker_forms.functions_of('src/pair.rt', BROKEN)]
     yield 'a clause with a line that ends as a head does', lambda: same(ends, [(7, 9)])
     yield 'a refused form is kept, any other is not', lambda: same(kept_forms(), (set(), True))
