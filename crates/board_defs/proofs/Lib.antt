@@ -11,7 +11,7 @@ mod SamplePins
 mod SampleTerms
 mod SampleRules
 mod SampleWhole
-mod SampleLaws
+pub mod SampleLaws
 pub mod Members
 pub mod PassSettings
 pub mod PassesKept

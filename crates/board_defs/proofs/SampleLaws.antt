@@ -20,7 +20,7 @@ use Rattle.board_defs.proofs.SampleRules.{pair}
 bus_apart : DecidesTerms bus → AreTogether bus (c 0 1) (c 1 1) → ⊥
 bus_apart terms both = let one : false ≡ true = (terms.together (c 0 1) (c 1 1)).1 both in cc one
 
-bus_is_covered : DecidesTerms bus → IsCovered bus 0
+pub bus_is_covered : DecidesTerms bus → IsCovered bus 0
 bus_is_covered terms = (terms.covered 0 bus_net refl).0 refl
 
 crossing_is_paired : DecidesTerms crossing → ArePaired crossing 0 1

@@ -1,7 +1,7 @@
 -- A net file has at most as many lines as bytes. Each of its lines has at most as many words as the
 -- file has bytes.
 use Rattle.std.proofs.Common.{◌≡◌, ℕ, ◌+◌, ◌<◌, ◌≤◌, ◌^◌, Bool, true, false, cond, List, [], ◌∷◌, length, Result, Ok, Err, refl, sym, ap, ◌∙◌, subst, arith, min}
-use Rattle.std.specs.Prelude.{IfOk, filter, take_while, if◌then◌else◌, codes}
+use Rattle.std.specs.Prelude.{filter, take_while, if◌then◌else◌, codes}
 use Rattle.std.specs.List.{AllByRecursion, slice_split, onto_first, prefix_len}
 use Rattle.std.proofs.lemmas.List.{length-take}
 use Rattle.std.specs.Str.{bytes_eq}

@@ -1,21 +1,13 @@
 -- Samples of answers that are not true of a board, and of texts that are not its coverage list.
 use Rattle.std.proofs.Common.{◌≡◌, ℕ, true, false, List, [], ◌∷◌, get_or, Some, None, codes, ap, refl, arith}
 use Rattle.std.specs.Fmt.{digits}
-use Rattle.board_defs.specs.declared.board.Net.{Net}
 use Rattle.board_defs.specs.declared.coverage.Reason.TheVariants.{NoReceiver}
-use Rattle.board_defs.specs.Coverage.{IsCovered}
 use Rattle.board_defs.specs.Laws.{DecidesTerms}
-use Rattle.board_defs.proofs.Samples.{pin, net, bus, crossing}
+use Rattle.board_defs.proofs.Samples.{bus_net, bus, crossing}
+use Rattle.board_defs.proofs.SampleLaws.{bus_is_covered}
 use Rattle.coverage_list.specs.declared.lines.PinUse.TheVariants.{Driver}
 use Rattle.coverage_list.specs.CoverList.{AreTrue, IsCoverList}
 use Rattle.coverage_list.proofs.TruthLemmas.{decided}
-
--- the net of `bus`, which has two drivers and a receiver
-abbrev bus_net : Net
-bus_net = net 0 None (pin 0 0 ∷ pin 1 0 ∷ pin 2 0 ∷ [])
-
-bus_is_covered : DecidesTerms bus → IsCovered bus 0
-bus_is_covered terms = (terms.covered 0 bus_net refl).0 refl
 
 -- The net of `bus` is covered. So answers which say that no net is covered, or which give a reason for this net, are not true.
 none_covered : DecidesTerms bus → AreTrue bus (record (decided bus) { covered = λ net. false }) → ⊥

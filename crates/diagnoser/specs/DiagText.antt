@@ -1,15 +1,14 @@
 -- The text of a diagnosis.
-use Rattle.std.specs.Prelude.{◌≡◌, ℕ, Bool, false, true, List, [], ◌∷◌, ◌++◌, length, codes, decimal, Option, None, Some, slice_get, IsTrue, ◌↔◌}
+use Rattle.std.specs.Prelude.{◌≡◌, ℕ, Bool, false, true, List, [], ◌∷◌, ◌++◌, length, codes, decimal, Option, None, Some, IsTrue, ◌↔◌}
 use Rattle.std.specs.List.{flat_map}
 use Rattle.line_printer.specs.Prints.{line_of, bit_word}
 use Rattle.board_defs.specs.declared.board.NetPin.{NetPin}
-use Rattle.board_defs.specs.declared.board.Net.{Net}
 use Rattle.board_defs.specs.declared.board.RawBoard.{RawBoard}
 use Rattle.board_defs.specs.declared.fault.Kind.{Kind}
 use Rattle.board_defs.specs.declared.fault.Kind.TheVariants.{And, Or, First, Second}
 use Rattle.board_defs.specs.declared.fault.Single.{Single}
 use Rattle.board_defs.specs.declared.fault.Single.TheVariants.{StuckNet, OpenPin, Short}
-use Rattle.board_defs.specs.Pins.{pin_at, name_of, net_name}
+use Rattle.board_defs.specs.Pins.{pin_at, net_name}
 use Rattle.tap_defs.specs.board.BoardScans.{svf_row_scans}
 use Rattle.tap_defs.specs.board.Explaining.{IsExpected}
 use Rattle.diagnoser.specs.Diagnosis.{AreExplaining}

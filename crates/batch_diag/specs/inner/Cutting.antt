@@ -32,7 +32,9 @@ is_of_kind WrongTitle words = is_title words && not (names_board words)
 abbrev pub NoneIs : (List Word → Bool) → List NumberedLine → Type 0
 NoneIs test lines = All (λ line. test line.words ≡ false) lines
 
--- `found` is the first line of the text that satisfies `test`. The first line of the text has the number `n`.
+-- `found` is the first line with words that satisfies `test`. The first line of the text has the number `n`. The text before `found` and the
+-- text behind it are fixed up to blanks, comments and lines without words. The last three fields bound the lengths and the line numbers, so
+-- that counting on from `found` does not overflow.
 pub record IsFirstLine (test : List Word → Bool) (n : ℕ) (text : List ℕ) (found : FoundLine) : Type 0 where
   pub all : rows_from n text
       ≡ rows_from n found.before.now

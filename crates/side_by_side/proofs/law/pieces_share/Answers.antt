@@ -1,4 +1,4 @@
-use Rattle.std.proofs.Common.{◌+◌, ◌<◌, arith}
+use Rattle.std.proofs.Common.{◌+◌, arith}
 use Rattle.side_by_side.proofs.PieceLemmas.{start_first, start_end}
 use Rattle.side_by_side.proofs.ShareLemmas.{starts_low, starts_high, even}
 use Rattle.side_by_side.proofs.law.pieces_share.Goals as goal
