@@ -10,8 +10,10 @@ TYPE = re.compile(r"^(?:pub(?:\(\w+\))? )?(?:struct|enum) (\w+)", re.MULTILINE)
 RECORD = re.compile(r"pub record (\w+)")
 FIELD = re.compile(r"  pub (\w+) :")
 CAPITALS = re.compile(r"\b[A-Z]\w*")
+# A struct's model is read with the struct, since it says what the struct keeps.
 DECLARED = re.compile(
-    r"^(?:(?:pub(?:\(\w+\))?|abbrev|unfoldable|record|data|struct|enum) )*([A-Z]\w*)"
+    r"^(?:impl(?:<[^>]*>)? Model for )?"
+    r"(?:(?:pub(?:\(\w+\))?|abbrev|unfoldable|record|data|struct|enum) )*([A-Z]\w*)"
 )
 ANY_RECORD = re.compile(r"(?:pub )?record \w")
 ANY_FIELD = re.compile(r"^  (?:pub )?(\w+) :", re.MULTILINE)

@@ -299,6 +299,15 @@ MODULES_READ = (
     },
     [('proofs/B.antt', 'f', 'second'), ('proofs/B.antt', 'h', 'first'), ('proofs/B.antt', 'i', 'first')],
 )
+# What a struct keeps is told by its model, which stands apart from it.
+KEPT = """pub struct Kept<'a, T: Named> {
+    row: &'a [T],
+}
+
+impl<'a, T: Named> Model for Kept<'a, T> {
+    ghost invariant = { λ a. IsKept a.row.now };
+}
+"""
 PROOFS = {
     'one': 'returns c = sym c.twice.ensures\n',
     'both': 'returns c = c.in-size.ensures.most\n\nother c = c.size.ensures.of_kit c.twice.result\n',
@@ -568,6 +577,8 @@ def check(_program):
     yield 'what a check says of declarations in modules', lambda: same(read_fields(misnamed, MODULES_CHECK), MODULES_READ)
     inside = [(it.name, sorted(it.fields)) for it in weaker_forms.records_of(lemmas)]
     yield 'a record in a module', lambda: same(inside, [('IsKept', ['kept'])])
+    said = [(name, 'IsKept' in lines) for name, lines in weaker_forms.declarations(KEPT)]
+    yield 'the model of a struct', lambda: same(said, [('Kept', False), ('Kept', True)])
     settled, checks, orders = all_at_once()
     yield 'a field that only an answer names, and errors that are about none', lambda: same(settled, ALL_AT_ONCE[0])
     yield 'records that keep a field, and functions that become stand-ins', lambda: same(checks, ALL_AT_ONCE[1])
