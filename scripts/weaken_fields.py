@@ -30,7 +30,7 @@ class Reach:
         """Returns what a function, its proof and the contracts of what it calls mention."""
         if it not in self.found:
             called = weaker_forms.names_in(self.crate.body(it))
-            near = [self.crate.own_text(it)]
+            near = [it.title(), self.crate.own_text(it)]  # a method's title names its struct
             for each in self.all:
                 for functions in each.functions.values():
                     used = [one for one in functions if one.is_called_in(called)]

@@ -307,6 +307,14 @@ KEPT = """pub struct Kept<'a, T: Named> {
 impl<'a, T: Named> Model for Kept<'a, T> {
     ghost invariant = { λ a. IsKept a.row.now };
 }
+
+impl<'a, T: Named> Kept<'a, T> {
+    fn first(&self) -> u32
+        ensures { result ≡ 1 }
+    {
+        1
+    }
+}
 """
 PROOFS = {
     'one': 'returns c = sym c.twice.ensures\n',
@@ -454,6 +462,13 @@ def missed_by_another_name():
         return {it.title(): who for it, who in found.items()}
 
 
+def reached_by_methods():
+    """Whether a method may need what its struct keeps, though the method doesn't mention it."""
+    with room(high=KEPT) as made:
+        reach = weaken_fields.Reach(made, made.crates['high'])
+        return ['IsKept' in reach.of(it) for it in made.crates['high'].witnesses()]
+
+
 def files_read():
     """How often files are read for two errors in one of them, for two more after that, and for two after another check."""
     with room() as made:
@@ -579,6 +594,7 @@ def check(_program):
     yield 'a record in a module', lambda: same(inside, [('IsKept', ['kept'])])
     said = [(name, 'IsKept' in lines) for name, lines in weaker_forms.declarations(KEPT)]
     yield 'the model of a struct', lambda: same(said, [('Kept', False), ('Kept', True)])
+    yield 'what the struct of a method keeps', lambda: same(reached_by_methods(), [True])
     settled, checks, orders = all_at_once()
     yield 'a field that only an answer names, and errors that are about none', lambda: same(settled, ALL_AT_ONCE[0])
     yield 'records that keep a field, and functions that become stand-ins', lambda: same(checks, ALL_AT_ONCE[1])
