@@ -7,7 +7,8 @@ ghost use Rattle.tap_defs.specs.chain.Transport.{DataTransport, LongDataTranspor
 ghost use Rattle.tap_defs.specs.chain.TestLogic.{TestLogic, instruction_of};
 ghost use Rattle.tap_defs.specs.board.OnBoard.{test_logic};
 ghost use Rattle.ident_test.specs.CodedParts.{AreCoded, coded_parts, HasCode};
-ghost use Rattle.ident_test.specs.IdentTest.{EachRunTells, IsIdentTest};
+ghost use Rattle.ident_test.specs.IdentTest.{EachRunTells, IsIdentTest, ArePatterns};
+ghost use Rattle.ident_test.specs.Patterns.{ident_text};
 
 /// States which bits a data scan outputs, and which bits the chain then holds (IEEE 1149.1-1990, section 8). One clause is about scans that
 /// are as long as the selected registers together, and the other about scans of any length.
@@ -76,4 +77,14 @@ pub fn codes_keep_lengths()
         → part.idcode ≡ code }
 {
     ident_test::law::codes_keep_lengths();
+}
+
+/// States that the SVF text of the identity test is an identity test for the patterns of a chain (`IsIdentTest`): it passes on each chain
+/// whose codes all fit their patterns, and fails on each chain with a code that does not fit. There must be 1 to 255 parts, and each pattern
+/// must have 32 symbols.
+pub fn ident_tests()
+    ensures { (patterns : List (Option (List Symbol))) → ArePatterns patterns
+        → IsIdentTest patterns (ident_text patterns) }
+{
+    ident_test::law::ident_tests();
 }

@@ -1,8 +1,13 @@
-//! Calls of laws of `bsdl_lexer`, `bsdl_parser`, `bsdl_strings`, `device_rules` and `device_check`, about BSDL texts and the rules for the
-//! devices that they describe.
-ghost use Rattle.std.specs.Prelude.{◌≡◌, ◌^◌, ◌<◌, ℕ, List, Option, length, None};
+//! Calls of laws of `bsdl_lexer`, `bsdl_parser`, `bsdl_strings`, `device_rules`, `device_check` and `btest_core`, about BSDL texts and the
+//! rules for the devices that they describe, and about the texts of a board.
+ghost use Rattle.std.specs.Prelude.{◌≡◌, ◌^◌, ◌<◌, ◌≤◌, ℕ, List, Option, length, None, Ok, All, IfSome};
 ghost use Rattle.board_defs.specs.declared.device.Symbol.{Symbol};
 ghost use Rattle.board_defs.specs.declared.device.Edition.{Edition};
+ghost use Rattle.board_defs.specs.Limits.{most_parts};
+ghost use Rattle.board_defs.specs.declared.board.RawBoard.{RawBoard};
+ghost use Rattle.board_defs.specs.declared.device.RawDevice.{RawDevice};
+ghost use Rattle.board_defs.specs.BoardRules.{IsBoard};
+ghost use Rattle.board_defs.specs.DeviceRules.{IsDevice};
 ghost use Rattle.first_places.specs.Items.{IsFound, IsLeast};
 ghost use Rattle.bsdl_lexer.specs.declared.token.Token.{Token};
 ghost use Rattle.bsdl_lexer.specs.Tokens.{AreTokens};
@@ -28,6 +33,9 @@ ghost use Rattle.device_rules.specs.Numbered.{breaks_attribute, lacks_code, brea
 ghost use Rattle.device_rules.specs.Places.{breaks_place, breaks_driver, breaks_mode, v9, v13, v14};
 ghost use Rattle.device_check.specs.Needed.{v1};
 ghost use Rattle.device_check.specs.NumberedSources.{breaks_source, reported};
+ghost use Rattle.btest_core.specs.DevicesRead.{IsDeviceText};
+ghost use Rattle.btest_core.specs.BoardRead.{Denotes};
+ghost use Rattle.btest_core.specs.IdentsRead.{Ident, AreIdents};
 
 /// States that a text has at most one token list.
 pub fn token_lists_are_unique()
@@ -116,4 +124,19 @@ pub fn least_source_is_reported()
         → IsLeast (breaks_source entity given) 16 (reported (v1 entity given)) }
 {
     device_check::law::least_source_is_reported();
+}
+
+/// States that a device that a text denotes keeps the rules of a device, and that a board that texts denote keeps the rules of a board. If
+/// the answer for the identification codes of a chain is a list, the list has 1 to 255 items, and each pattern among them has 32 symbols.
+pub fn inputs_keep_rules()
+    ensures device { (text : List ℕ) (device : RawDevice) → IsDeviceText text (Ok device)
+        → IsDevice device }
+    ensures idents { (chain : List ℕ) (texts : List (List ℕ)) (idents : List Ident)
+        → AreIdents chain texts (Ok idents)
+        → (0 < length idents) × (length idents ≤ most_parts)
+        × All (λ ident. IfSome ident (λ code. length code ≡ 32)) idents }
+    ensures board { (chain nets : List ℕ) (texts : List (List ℕ)) (board : RawBoard)
+        → Denotes chain nets texts board → IsBoard board }
+{
+    btest_core::law::inputs_keep_rules();
 }
