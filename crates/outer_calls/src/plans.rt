@@ -1,7 +1,10 @@
-//! Calls of `scan_planner` and `walk_test` that make the plan of a board's test, fill rows with a scan of this test, and make a board's
-//! walking test.
+//! Calls of `scan_planner` and `walk_test` that make the plan of a board's test, fill rows with a scan of this test, return the quiet row of
+//! a plan, and make a board's walking test.
 ghost use Rattle.std.specs.Prelude.{◌≡◌, ◌<◌, ◌^◌, length, slice_get, IfOk};
+ghost use Rattle.board_defs.specs.declared.board.RawBoard.{RawBoard};
 ghost use Rattle.board_defs.specs.Passes.{passes_of};
+ghost use Rattle.tap_defs.specs.board.BoardScans.{first_row_scan, row_bits};
+ghost use Rattle.tap_defs.specs.chain.Scan.{joined, tdi_bits};
 ghost use Rattle.scan_planner.specs.Plans.{ArePlannable, FillsScan, IsPlanOf, IsRoom, scan_count};
 ghost use Rattle.walk_test.specs.Tables.{IsWalkOf};
 
@@ -46,6 +49,15 @@ pub fn fill(
     ensures mask_kept { mask.new.room ≡ mask.old.room }
 {
     plan.fill(board, k, tdi, tdo, mask)
+}
+
+/// Returns the plan's quiet row, which the second scan and the last scan of each pass shift in.
+pub fn quiet_row(plan: &Plan) -> &Row
+    ensures row { result.now ≡ plan.now.quiet }
+    ensures shifted { (board : RawBoard) → IsPlanOf board plan.now
+        → result.now.bits ≡ tdi_bits (joined (row_bits board first_row_scan)) }
+{
+    plan.quiet_row()
 }
 
 /// Returns the walking test of the board. It uses only the first of `passes`, which must be the first pass of the board's test. If that
