@@ -80,8 +80,8 @@ pub fn codes_keep_lengths()
 }
 
 /// States that the SVF text of the identity test is an identity test for the patterns of a chain (`IsIdentTest`): it passes on each chain
-/// whose codes all fit their patterns, and fails on each chain with a code that does not fit. There must be 1 to 255 parts, and each pattern
-/// must have 32 symbols.
+/// whose codes all fit their patterns, and fails on each chain with a code that does not fit. There must be 1 to 255 parts, and each
+/// pattern must have 32 symbols.
 pub fn ident_tests()
     ensures { (patterns : List (Option (List Symbol))) → ArePatterns patterns
         → IsIdentTest patterns (ident_text patterns) }

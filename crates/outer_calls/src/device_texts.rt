@@ -1,5 +1,5 @@
-//! Calls of `bsdl_lexer`, `bsdl_parser` and `device_check` that split a BSDL text into tokens, read the entity that the tokens describe, and
-//! make the device of the entity.
+//! Calls of `bsdl_lexer`, `bsdl_parser` and `device_check` that split a BSDL text into tokens, read the entity that the tokens describe,
+//! and make the device of the entity.
 ghost use Rattle.std.specs.Prelude.{◌≡◌, ◌^◌, ◌<◌, [], List, Result, length, IfOk, option_copied};
 ghost use Rattle.answers.specs.Gives.{Gives};
 ghost use Rattle.board_defs.specs.declared.device.RawDevice.{RawDevice};

@@ -1,9 +1,9 @@
-//! Callers of the public functions that the program does not call, and of a few functions that it calls but that have a clause that no other
-//! caller needs. Each function here calls one of them and has the same contract as the function that it calls. So if a change weakens the
-//! contract of the called function, the proof of its caller fails.
+//! Callers of the public functions that the program does not call, and of a few functions that it calls but that have a clause that no
+//! other caller needs. Each function here calls one of them and has the same contract as the function that it calls. So if a change weakens
+//! the contract of the called function, the proof of its caller fails.
 //!
-//! The modules whose names end in `_laws` call the laws that no other function calls, and the laws with a clause that no other caller needs.
-//! A law is a function that does nothing, and its contract states a property of definitions.
+//! The modules whose names end in `_laws` call the laws that no other function calls, and the laws with a clause that no other caller
+//! needs. A law is a function that does nothing, and its contract states a property of definitions.
 #![tactic(auto)]
 
 pub mod board_laws;

@@ -1,5 +1,5 @@
-//! Calls of laws of `tap_defs`, `response_log`, `fault_sim`, `diagnoser` and `batch_diag`, about logs, their diagnoses and batches of logs. A
-//! place is the number of a possible single fault. The suspects of a log are the places whose faults may explain it.
+//! Calls of laws of `tap_defs`, `response_log`, `fault_sim`, `diagnoser` and `batch_diag`, about logs, their diagnoses and batches of logs.
+//! A place is the number of a possible single fault. The suspects of a log are the places whose faults may explain it.
 ghost use Rattle.std.specs.Prelude.{◌↔◌, ◌≡◌, ◌+◌, ◌^◌, ◌≤◌, Bool, List, IsTrue, filter, ℕ, Some};
 ghost use Rattle.board_defs.specs.declared.board.RawBoard.{RawBoard};
 ghost use Rattle.board_defs.specs.declared.fault.Single.{Single};
@@ -137,9 +137,9 @@ pub fn expected_logs()
     tap_defs::board_law::expected_logs();
 }
 
-/// States that faults explain a log if and only if two conditions are met. The log has the shape of the test. Each compared bit in it is the
-/// bit that the cell captures under these faults, whatever the free bits are, while the row of the previous scan is in the latches. Each
-/// scan must compare the row that is in the latches, and every compared row must have a safe setting (`AreInTurn`).
+/// States that faults explain a log if and only if two conditions are met. The log has the shape of the test. Each compared bit in it is
+/// the bit that the cell captures under these faults, whatever the free bits are, while the row of the previous scan is in the latches.
+/// Each scan must compare the row that is in the latches, and every compared row must have a safe setting (`AreInTurn`).
 pub fn logs_by_rows()
     ensures { (board : RawBoard) (faults : FaultSet) (scans : List RowScan) (log : List (List Bool))
         → IsBoard board → AreInTurn board scans

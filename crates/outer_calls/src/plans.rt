@@ -1,5 +1,5 @@
-//! Calls of `scan_planner` and `walk_test` that make the plan of a board's test, fill rows with a scan of this test, return the quiet row of
-//! a plan, and make a board's walking test.
+//! Calls of `scan_planner` and `walk_test` that make the plan of a board's test, fill rows with a scan of this test, return the quiet row
+//! of a plan, and make a board's walking test.
 ghost use Rattle.std.specs.Prelude.{◌≡◌, ◌<◌, ◌^◌, length, slice_get, IfOk};
 ghost use Rattle.board_defs.specs.declared.board.RawBoard.{RawBoard};
 ghost use Rattle.board_defs.specs.Passes.{passes_of};

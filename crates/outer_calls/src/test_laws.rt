@@ -99,10 +99,10 @@ pub fn statements_compared()
     tap_defs::board_law::statements_compared();
 }
 
-/// States that the compared scans of a test compare the rows of its passes, pass by pass and row by row, each row once. A pass that observes
-/// no net has no compared scans. If the passes meet the requirements on passes (`ArePasses`), each pass observes some net. Then a log has the
-/// shape of the test (`HasShape`) if and only if it has `width` rows for each pass and each row has a bit for each position of a data scan.
-/// The compared scans of a walking test compare its rows in turn, each row once.
+/// States that the compared scans of a test compare the rows of its passes, pass by pass and row by row, each row once. A pass that
+/// observes no net has no compared scans. If the passes meet the requirements on passes (`ArePasses`), each pass observes some net. Then a
+/// log has the shape of the test (`HasShape`) if and only if it has `width` rows for each pass and each row has a bit for each position of
+/// a data scan. The compared scans of a walking test compare its rows in turn, each row once.
 pub fn rows_compared()
     ensures passes { (board : RawBoard) (passes : List (List Ctl)) (width : ℕ) → IsBoard board
         → ArePasses board passes
@@ -135,8 +135,8 @@ pub fn scans_in_turn()
     tap_defs::board_law::scans_in_turn();
 }
 
-/// States that the Or shorts of each set of groups are a fault set of the board. Each set of groups explains some log, and any two logs that
-/// one set explains agree at every compared bit.
+/// States that the Or shorts of each set of groups are a fault set of the board. Each set of groups explains some log, and any two logs
+/// that one set explains agree at every compared bit.
 pub fn groups_respond()
     ensures faults { ShortsAreFaults }
     ensures some { GroupsRespond }
