@@ -1,6 +1,5 @@
 // A chain that `select` accepted, with its parts.
-ghost use Rattle.std.specs.Prelude.{◌≡◌, ◌≢◌, ◌<◌, ◌≤◌, ◌^◌, All, AllPairs, length, map};
-ghost use Rattle.board_defs.specs.Limits.{most_parts};
+ghost use Rattle.std.specs.Prelude.{◌≡◌, ◌<◌, ◌^◌, All, length, map};
 ghost use Rattle.board_defs.specs.BoardRules.{IsPart};
 ghost use Rattle.board_lines.specs.Names.{named, names_of};
 ghost use Rattle.board_lines.specs.declared.names.Naming.TheVariants.{Part as PartName};
@@ -49,11 +48,9 @@ impl<'a> SelectedChain<'a> {
         self.lines
     }
 
-    /// Returns the parts. There are at most 255 parts, and their names differ.
+    /// Returns the parts.
     pub fn parts(&self) -> &[Part]
         ensures parts { result.now ≡ self.now.parts }
-        ensures few { length result.now ≤ most_parts }
-        ensures differ { AllPairs (λ a b. a ≢ b) (map (λ part. part.name) result.now) }
         ensures selected { IsSelected self.now }
     {
         &self.parts

@@ -1,5 +1,5 @@
 // The names on the lines of a chain file.
-ghost use Rattle.std.specs.Prelude.{◌≡◌, ◌≤◌, vec_len, List, length, ℕ, map, IfOk, option_map, option_copied, Option};
+ghost use Rattle.std.specs.Prelude.{◌≡◌, ◌≤◌, vec_len, List, length, ℕ, map, IfOk, option_copied, Option};
 ghost use Rattle.std.proofs.Common.{Bor};
 ghost use Rattle.first_places.specs.Places.{first_place, first_repeat, place_or_zero, once};
 ghost use Rattle.indexmap.specs.IndexMap.{get_by};
@@ -60,9 +60,8 @@ pub fn named<'a>(
 
 /// Returns the names of the list, without the numbers of their lines.
 pub fn names_of<'a>(alloc: Global, named: &[(u32, &'a [u8])]) -> Result<Vec<&'a [u8]>, AllocError>
-    ensures names { IfOk result
+    ensures { IfOk result
         (λ names. map (λ n. n.now) names.items ≡ names_of (map (λ n. (n.0, n.1.now)) named.now)) }
-    ensures count { IfOk result (λ names. vec_len names ≡ length named.now) }
 {
     let mut names = Vec::new(alloc);
     for n in named {

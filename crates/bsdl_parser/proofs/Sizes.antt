@@ -6,7 +6,6 @@ use Rattle.std.proofs.Common.{◌≡◌, ℕ, ◌+◌, ◌-◌, ◌<◌, ◌≤�
 use Rattle.std.proofs.lemmas.List.{length-map}
 use Rattle.std.proofs.lemmas.List.Elements.{All-nil, All-cons, All-weaker}
 use Rattle.std.specs.List.{All, slice_range}
-use Rattle.std.specs.Option.{IfSome}
 use Rattle.std.specs.Char.{to_ascii_uppercase}
 use Rattle.bsdl_lexer.specs.declared.token.Token.{Token}
 use Rattle.bsdl_lexer.specs.Tokens.{IsToken, Stand, AreTokens}
@@ -284,10 +283,6 @@ each_below : {X : Type 0} (f : X → ℕ) (limit : ℕ) (xs : List X) → total 
 each_below f limit [] h = All-nil (λ x. f x < limit)
 each_below f limit (x ∷ xs) h = All-cons (λ x. f x < limit) x xs (omega arith) (each_below f limit xs (omega arith))
 
-option_short : (o : Option (List ℕ)) → option_cost o < 2 ^ 32 → IfSome o (λ text. length text < 2 ^ 32)
-option_short None h = tt
-option_short (Some text) h = h
-
 value_short : (value : AttrValue) → value_cost value < 2 ^ 32 → HasShortText value
 value_short values.Plain h = tt
 value_short (values.Port port) h = h
@@ -296,42 +291,15 @@ value_short (values.Text text) h = h
 
 small : (entity : Entity) → entity_cost entity < 2 ^ 32 → IsSmall entity
 small entity h = record {
-  name = let k : length entity.name ≤ cost entity.name = length-cost entity.name in omega arith;
-  fallback = option_short entity.fallback (omega arith);
   ports =
       let k : length entity.ports
       ≤ total port_cost entity.ports = some_each port_cost (λ port. cost_some port.name)
       entity.ports in
       omega arith;
-  port_names =
-      All-weaker (λ (port : Port). port_cost port < 2 ^ 32)
-      (λ (port : Port). length port.name < 2 ^ 32)
-      (λ port k. let l : length port.name ≤ cost port.name = length-cost port.name in omega arith)
-      entity.ports (each_below port_cost (2 ^ 32) entity.ports (omega arith));
-  uses = let k : length entity.uses ≤ total cost entity.uses = some_each cost cost_some entity.uses in omega arith;
-  used_names =
-      All-weaker (λ (name : List ℕ). cost name < 2 ^ 32) (λ (name : List ℕ). length name < 2 ^ 32)
-      (λ name k. let l : length name ≤ cost name = length-cost name in omega arith) entity.uses
-      (each_below cost (2 ^ 32) entity.uses (omega arith));
-  constants =
-      let k : length entity.constants
-      ≤ total constant_cost entity.constants = some_each constant_cost
-      (λ one. let l : 0 < cost one.name = cost_some one.name in omega arith) entity.constants in
-      omega arith;
-  constant_names =
-      All-weaker (λ (one : Constant). constant_cost one < 2 ^ 32)
-      (λ (one : Constant). length one.name < 2 ^ 32)
-      (λ one k. let l : length one.name ≤ cost one.name = length-cost one.name in omega arith)
-      entity.constants (each_below constant_cost (2 ^ 32) entity.constants (omega arith));
   constant_texts =
       All-weaker (λ (one : Constant). constant_cost one < 2 ^ 32)
       (λ (one : Constant). length one.text < 2 ^ 32) (λ one k. omega arith) entity.constants
       (each_below constant_cost (2 ^ 32) entity.constants (omega arith));
-  attributes =
-      let k : length entity.attributes
-      ≤ total attr_cost entity.attributes = some_each attr_cost (λ one. omega arith)
-      entity.attributes in
-      omega arith;
   attribute_texts =
       All-weaker (λ (one : Attr). attr_cost one < 2 ^ 32) (λ (one : Attr). HasShortText one.value)
       (λ one k. value_short one.value (omega arith)) entity.attributes

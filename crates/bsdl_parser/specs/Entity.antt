@@ -1,6 +1,6 @@
 -- Properties of the entities that the grammar derives: the kind of each attribute's value and, for
--- a text of fewer than 2^32 bytes, the sizes of names, texts and lists.
-use Rattle.std.specs.Prelude.{◌≡◌, ℕ, ◌^◌, ◌<◌, List, [], ◌∷◌, length, Bool, ◌==◌, IsTrue, All, IfSome}
+-- a text of fewer than 2^32 bytes, the number of its ports and the lengths of its texts.
+use Rattle.std.specs.Prelude.{◌≡◌, ℕ, ◌^◌, ◌<◌, List, [], ◌∷◌, length, Bool, ◌==◌, IsTrue, All}
 use Rattle.std.specs.List.{list_any}
 use Rattle.bsdl_parser.specs.declared.entity.AttrValue.{AttrValue}
 use Rattle.bsdl_parser.specs.declared.entity.AttrValue.TheVariants as values
@@ -48,17 +48,9 @@ HasShortText (values.Port port) = IsShort port
 HasShortText (values.Number value) = Unit {0}
 HasShortText (values.Text text) = IsShort text
 
--- each list of the entity has fewer than 2^32 items, and each name and each text in it has fewer
--- than 2^32 bytes
+-- the entity has fewer than 2^32 ports, and each text of a constant or of an attribute has fewer than 2^32
+-- bytes
 pub record IsSmall (entity : Entity) : Type 0 where
-  pub name : IsShort entity.name
-  pub fallback : IfSome entity.fallback IsShort
   pub ports : IsShort entity.ports
-  pub port_names : All (λ port. IsShort port.name) entity.ports
-  pub uses : IsShort entity.uses
-  pub used_names : All IsShort entity.uses
-  pub constants : IsShort entity.constants
-  pub constant_names : All (λ constant. IsShort constant.name) entity.constants
   pub constant_texts : All (λ constant. IsShort constant.text) entity.constants
-  pub attributes : IsShort entity.attributes
   pub attribute_texts : All (λ attribute. HasShortText attribute.value) entity.attributes

@@ -84,8 +84,8 @@ pub fn parse(alloc: Global, bytes: &[u8], tokens: &[Token]) -> Result<Entity, Pa
         (λ answer. (other : Result Entity ParseFault)
         → IsParseAnswer bytes.now (lexemes bytes.now tokens.now) other → other ≡ answer) result }
 
-    // In a returned entity, each attribute has the kind of value that its number requires. All
-    // names, texts and lists are shorter than 2^32.
+    // In a returned entity, each attribute has the kind of value that its number requires. The
+    // entity has fewer than 2^32 ports, and its texts have fewer than 2^32 bytes each.
     ensures kinds { IfOk result HaveKinds }
     ensures small { IfOk result IsSmall }
 {

@@ -24,8 +24,8 @@ pub fn token_lists_have_one_answer()
 {}
 
 /// The value of each attribute of a derived entity has the kind that the attribute's number
-/// requires. If the tokens belong to a text of fewer than 2^32 bytes, the names, texts and lists of
-/// the entity are shorter than 2^32.
+/// requires. If the tokens belong to a text of fewer than 2^32 bytes, the entity has fewer than 2^32
+/// ports, and its texts have fewer than 2^32 bytes each.
 pub fn entities_keep_their_limits()
     ensures kinds { (tokens : List Lexeme) (entity : Entity) → Derives tokens entity
         → HaveKinds entity }

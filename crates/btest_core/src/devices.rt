@@ -37,8 +37,8 @@ pub fn read_device(alloc: Global, text: TextSlice<'_>) -> Result<Device, InputFa
 
 // Returns the device of the entity in this package, or the fault of the first rule or string that
 // fails, or lack of memory. If `package` is None, the package is the entity's default package.
-// `text` is the number of the entity's text, which the fault reports. The entity's lists, names and
-// texts must be shorter than 2^32.
+// `text` is the number of the entity's text, which the fault reports. The entity must be small
+// (`IsSmall`).
 fn device_in(
     alloc: Global,
     entity: &Entity,
@@ -58,8 +58,8 @@ fn device_in(
 
 // Returns the device of entity number `text` in this package, or the fault of the first rule or
 // string that fails, or lack of memory. If `package` is None, the package is the entity's default
-// package. There must be an entity with this number. The lists, names and texts of each entity must
-// be shorter than 2^32.
+// package. There must be an entity with this number. Each entity must be small
+// (`IsSmall`).
 fn device_of(
     alloc: Global,
     entities: &[Entity],
@@ -105,7 +105,7 @@ fn earlier(chosen: &[(u32, Option<&[u8]>)], i: usize) -> Option<usize>
 // Returns the device of choice `i`, or the choice's first fault. If an earlier choice equals choice
 // `i`, copies the device of the earlier choice from `devices`, which must have the devices of the
 // choices before choice `i`. `i` must be the index of a choice, and the number in each choice must
-// be the index of an entity. The lists, names and texts of each entity must be shorter than 2^32.
+// be the index of an entity. Each entity must be small (`IsSmall`).
 fn next_device(
     alloc: Global,
     entities: &[Entity],
@@ -128,8 +128,7 @@ fn next_device(
 }
 
 // Returns the device of each choice, in the order of the choices, or the first fault. The number in
-// each choice must be the index of an entity. The lists, names and texts of each entity must be
-// shorter than 2^32.
+// each choice must be the index of an entity. Each entity must be small (`IsSmall`).
 fn chosen_devices(
     alloc: Global,
     entities: &[Entity],
@@ -233,7 +232,7 @@ fn numbers(
 
 // Returns the devices of the DEVICE lines, in the order of the lines, or the first fault. `numbers`
 // has the number of the text for each of these lines, and there must be an entity with each of these
-// numbers. The lists, names and texts of each entity must be shorter than 2^32.
+// numbers. Each entity must be small (`IsSmall`).
 fn devices_by(
     alloc: Global,
     lines: &[ChainLine],
@@ -252,7 +251,7 @@ fn devices_by(
 }
 
 // Returns the devices that the DEVICE lines select among the entities, in the order of the lines,
-// or the first fault. The lists, names and texts of each entity must be shorter than 2^32.
+// or the first fault. Each entity must be small (`IsSmall`).
 fn selected_devices(
     alloc: Global,
     file: &ChainFile,

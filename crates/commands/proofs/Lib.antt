@@ -2,4 +2,3 @@ pub mod AnswerLemmas
 pub mod TestLemmas
 pub mod SummaryLemmas
 pub mod VerdictLemmas
-pub mod ShapeLemmas

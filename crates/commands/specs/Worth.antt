@@ -1,5 +1,5 @@
 -- The properties of the texts that the commands write.
-use Rattle.std.specs.Prelude.{◌≡◌, ◌↔◌, ℕ, Bool, true, List, [], Option, Some, Ok, All, IsTrue}
+use Rattle.std.specs.Prelude.{◌≡◌, ◌↔◌, ℕ, Bool, true, List, [], Option, Some, Ok, IsTrue}
 use Rattle.tap_defs.specs.chain.ChainTest.{IsChainTest}
 use Rattle.tap_defs.specs.board.BoardTest.{IsBoardTest, IsHarmless}
 use Rattle.board_defs.specs.declared.board.RawBoard.{RawBoard}
@@ -18,7 +18,7 @@ use Rattle.tap_defs.specs.board.BoardScans.{board_text, svf_row_scans, svf_scans
 use Rattle.tap_defs.specs.chain.Clocks.{test_clocks}
 use Rattle.tap_defs.specs.chain.Svf.{meaning}
 use Rattle.board_defs.specs.Faults.{IsSingle}
-use Rattle.tap_defs.specs.board.Explaining.{AgreeOn, Explains, HasShape, IsExpected}
+use Rattle.tap_defs.specs.board.Explaining.{AgreeOn, Explains, IsExpected}
 use Rattle.diagnoser.specs.Laws.{ListsExplaining}
 use Rattle.diagnoser.specs.DiagText.{diag_text}
 use Rattle.batch_diag.specs.declared.block.Block.{Block}
@@ -102,16 +102,14 @@ pub record RespondOnce (board : RawBoard) : Type 0 where
   pub one : (single : Single) (log other : List (List Bool)) → Explains board single log
       → Explains board single other → AgreeOn board (svf_row_scans board) log other
 
--- The text is the diagnosis of a log of the board's test, and the diagnosis is correct (`IsRight`). The log
--- has a row for each compared SDR statement of the test, in the order of the statements. Each row has a bit
--- for each position of a data scan. The text of the test means the TAP clocks of the test's scans
--- (`TestMeans`), and each single fault has one response to the test (`RespondOnce`).
+-- The text is the diagnosis of a log of the board's test, and the diagnosis is correct (`IsRight`). The text
+-- of the test means the TAP clocks of the test's scans (`TestMeans`), and each single fault has one response
+-- to the test (`RespondOnce`).
 pub record Diagnoses (log : Text) (board : RawBoard) (text : Text) : Type 0 where
   pub means : TestMeans board
   pub respond : RespondOnce board
   pub rows : List (List Bool)
   pub read : test_log log board ≡ Ok rows
-  pub shape : HasShape board (svf_row_scans board) rows
   pub pass : Bool
   pub faults : List Single
   pub right : IsRight board rows pass faults
@@ -124,21 +122,18 @@ pub record DiagnosesEach (log : Text) (board : RawBoard) (text : Text) : Type 0 
   pub respond : RespondOnce board
   pub blocks : List Block
   pub read : test_blocks log board ≡ Ok blocks
-  pub shapes : All (λ block. HasShape board (svf_row_scans board) block.log) blocks
   pub verdicts : List Verdict
   pub right : EachPair (λ block verdict. IsRight board block.log verdict.pass verdict.faults) blocks verdicts
   pub is : text ≡ batch_text board blocks verdicts
 
 -- The text names the groups that explain a log of a board's walking test, or says that no set of groups
--- explains it. The text of the walking test means the TAP clocks of the test's scans (`WalkMeans`). The log
--- has a row for each compared SDR statement of the test. `found` is the only set of groups that explains the
--- log, or `None` if no set explains it. Each set of groups explains some log, and all logs that one set
--- explains have the same compared bits.
+-- explains it. The text of the walking test means the TAP clocks of the test's scans (`WalkMeans`). `found` is
+-- the only set of groups that explains the log, or `None` if no set explains it. Each set of groups explains
+-- some log, and all logs that one set explains have the same compared bits.
 pub record IsGroupsText (log : Text) (board : RawBoard) (text : Text) : Type 0 where
   pub means : WalkMeans board
   pub rows : List (List Bool)
   pub read : walk_log log board ≡ Ok rows
-  pub shape : HasShape board (walk_row_list board) rows
   pub found : Option (List (List ℕ))
   pub exactly : (groups : List (List ℕ)) → (found ≡ Some groups) ↔ Explain board rows groups
   pub respond : (groups : List (List ℕ)) → AreGroups board groups → (other : List (List Bool)) × Explain board other groups

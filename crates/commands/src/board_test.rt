@@ -1,20 +1,16 @@
 // The command `svf`, which writes the test of a board.
-ghost use Rattle.std.specs.Prelude.{◌≡◌, ◌-◌, ◌<◌, Bool, IfOk, IfSome, List, slice_get};
+ghost use Rattle.std.specs.Prelude.{◌≡◌, ◌-◌, ◌<◌, IfOk, IfSome, List, slice_get};
 ghost use Rattle.bt_base.specs.Puts.{Puts};
 ghost use Rattle.board_defs.specs.BoardRules.{IsBoard};
-ghost use Rattle.board_defs.specs.Pins.{data_bits};
-ghost use Rattle.tap_defs.specs.board.BoardScans.{RowScan, board_scans, board_text, pass_text, svf_row_scans, test_scans};
+ghost use Rattle.tap_defs.specs.board.BoardScans.{RowScan, board_scans, board_text, pass_text, test_scans};
 ghost use Rattle.tap_defs.specs.board.BoardTest.{IsBoardTest};
-ghost use Rattle.tap_defs.specs.board.Explaining.{HasShape};
 ghost use Rattle.tap_defs.specs.chain.Clocks.{test_clocks};
 ghost use Rattle.tap_defs.specs.chain.Svf.{meaning};
 ghost use Rattle.tap_defs.specs.chain.Text.{scan_text, svf_text};
 ghost use Rattle.plan_tables.specs.declared.tables.PlanTables.{PlanTables as PlanRecord};
 ghost use Rattle.scan_planner.specs.PassRows.{AreKept};
 ghost use Rattle.scan_planner.specs.Plans.{IsRoom, scan_count};
-ghost use Rattle.response_log.specs.LogRows.{HasSize};
 ghost use Rattle.diagnoser.specs.Laws.{ExplainingListed, PassingUnexplained};
-ghost use Rattle.commands.specs.LogRead.{test_rows};
 ghost use Rattle.commands.specs.Worth.{RespondOnce, IsSvfText};
 ghost use Rattle.commands.specs.Answers.{BoardAnswers};
 ghost use Rattle.commands.specs.inner.Rows.{EachStoredHasRoom, HoldScan};
@@ -25,13 +21,12 @@ use crate::rows::Rows;
 use crate::texts::BoardTexts;
 use crate::unput::{Unput, answer_by};
 use board_defs::Board;
-use board_defs::law::passes_kept;
 use bt_base::{PutFault, Sink};
 use diagnoser::law::{explaining_listed, passing_unexplained};
 use scan_planner::{BoardPlan, PassRows};
 use std::alloc::{AllocError, Global};
 use svf_writer::{write_head, write_scan, write_tail};
-use tap_defs::board_law::{board_texts_test, one_log, rows_compared, scans_in_turn, scans_placed};
+use tap_defs::board_law::{board_texts_test, one_log, scans_in_turn, scans_placed};
 use tap_defs::chain_law::texts_mean;
 use tap_defs::{ScanRows, Shape, StoredRows};
 
@@ -80,18 +75,6 @@ pub fn test_means(board: &Board)
     texts_mean();
 }
 
-// States that a log with `test_rows` rows of `data_bits` bits has the shape of a log of the board's
-// test (`HasShape`): a row for each compared SDR statement of the test, and in each row a bit for
-// each position of a data scan. Does nothing.
-fn test_logs_shaped(board: &Board)
-    ensures { (log : List (List Bool)) → HasSize (test_rows board.now) (data_bits board.now) log
-        → HasShape board.now (svf_row_scans board.now) log }
-{
-    let _rules = board.raw();
-    passes_kept();
-    rows_compared();
-}
-
 // States that each single fault of a board has one response to the board's test. Does nothing.
 fn singles_respond(board: &Board)
     ensures { RespondOnce board.now }
@@ -103,24 +86,19 @@ fn singles_respond(board: &Board)
 
 /// States the laws on which the diagnoses of a board rest. The board satisfies the rules of a board
 /// (`IsBoard`). The text of any data scans has a meaning (`meaning`): the TAP clocks of the test with these
-/// scans. A log with `test_rows` rows of `data_bits` bits has the shape of a log of the board's test. Each
-/// single fault of the board has one response. A diagnosis lists exactly the faults that explain the
-/// diagnosed log. No fault explains a log that passes. Does nothing.
+/// scans. Each single fault of the board has one response. A diagnosis lists exactly the faults that explain
+/// the diagnosed log. No fault explains a log that passes. Does nothing.
 pub fn judging_laws(board: &Board)
     ensures rules { IsBoard board.now }
     ensures means { (scans : List RowScan)
         → meaning (svf_text (board_scans board.now scans))
         ≡ Some (test_clocks (board_scans board.now scans)) }
-    ensures shaped { (log : List (List Bool))
-        → HasSize (test_rows board.now) (data_bits board.now) log
-        → HasShape board.now (svf_row_scans board.now) log }
     ensures respond { RespondOnce board.now }
     ensures listed { ExplainingListed }
     ensures unexplained { PassingUnexplained }
 {
     let _rules = board.raw();
     test_means(board);
-    test_logs_shaped(board);
     singles_respond(board);
     explaining_listed();
     passing_unexplained();

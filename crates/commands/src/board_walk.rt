@@ -1,16 +1,14 @@
 // The command `walk`, which writes the walking test of a board.
-ghost use Rattle.std.specs.Prelude.{◌≡◌, ◌<◌, Bool, List, length, Ok, slice_get, IfErr, IfOk, IfSome};
+ghost use Rattle.std.specs.Prelude.{◌≡◌, ◌<◌, length, Ok, slice_get, IfErr, IfOk, IfSome};
 ghost use Rattle.bt_base.specs.Puts.{Puts};
 ghost use Rattle.board_defs.specs.Pins.{data_bits};
 ghost use Rattle.tap_defs.specs.board.BoardTest.{IsHarmless};
-ghost use Rattle.tap_defs.specs.board.Explaining.{HasShape};
 ghost use Rattle.tap_defs.specs.chain.Text.{scan_text};
 ghost use Rattle.net_classes.specs.Kept.{AreClasses};
 ghost use Rattle.net_pins.specs.Tables.{AreNetPins};
 ghost use Rattle.scan_planner.specs.Plans.{IsRoom};
 ghost use Rattle.walk_test.specs.Tables.{IsWalkOf, count_walk_scans};
-ghost use Rattle.walk_test.specs.WalkTest.{board_walk_text, walk_row_list, walk_scans};
-ghost use Rattle.response_log.specs.LogRows.{HasSize};
+ghost use Rattle.walk_test.specs.WalkTest.{board_walk_text, walk_scans};
 ghost use Rattle.commands.specs.Answers.{BoardAnswers, IsBoardOf};
 ghost use Rattle.commands.specs.LogRead.{walk_rows};
 ghost use Rattle.commands.specs.inner.Rows.{EachStoredHasRoom};
@@ -30,7 +28,6 @@ use net_pins::NetPins;
 use std::alloc::{AllocError, Global};
 use std::marker::Model;
 use svf_writer::{write_head, write_scan, write_tail};
-use tap_defs::board_law::{rows_compared, statements_compared};
 use walk_test::Walk;
 use walk_test::law::{scans_counted, walk_harmless};
 
@@ -101,18 +98,6 @@ fn with_walk(alloc: Global, board: Board) -> Result<Walked, AllocError>
 {
     let walk = walk_of(alloc, &board)?;
     Ok(Walked { board, walk })
-}
-
-/// States that a log with `walk_rows` rows of `data_bits` bits has the shape of a log of the
-/// board's walking test (`HasShape`): a row for each compared SDR statement of the test, and in
-/// each row a bit for each position of a data scan. Does nothing.
-pub fn walk_logs_shaped(board: &Board)
-    ensures { (log : List (List Bool)) → HasSize (walk_rows board.now) (data_bits board.now) log
-        → HasShape board.now (walk_row_list board.now) log }
-{
-    let _rules = board.raw();
-    rows_compared();
-    statements_compared();
 }
 
 // Returns the walking test of the board.

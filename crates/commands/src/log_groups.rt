@@ -10,7 +10,7 @@ ghost use Rattle.commands.specs.Answers.{AnswersOn, JudgedAnswers};
 ghost use Rattle.commands.specs.inner.Unput.{PutsText};
 
 use crate::board_test::test_means;
-use crate::board_walk::{Walked, walk_logs_shaped, walked_board};
+use crate::board_walk::{Walked, walked_board};
 use crate::texts::LogTexts;
 use crate::unput::{Unput, answer_by, unput_by_log};
 use board_defs::Board;
@@ -80,7 +80,6 @@ fn put_grouped<K: Sink>(alloc: Global, walked: &Walked, log: &Log, out: &mut K) 
     let found = walk_test::groups(alloc, board, walk, log)?;
     let _rules = board.raw();
     test_means(board);
-    walk_logs_shaped(board);
     groups_respond();
     one_set();
     put_found(alloc, board, &found, out)

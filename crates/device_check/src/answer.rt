@@ -1,14 +1,12 @@
 //! Makes the device that an entity describes, or finds the first fault of the entity.
-ghost use Rattle.std.specs.Prelude.{◌≡◌, None, Result, IfOk, option_copied};
+ghost use Rattle.std.specs.Prelude.{◌≡◌, None, Result, option_copied};
 ghost use Rattle.answers.specs.Gives.{Gives};
 ghost use Rattle.board_defs.specs.declared.device.RawDevice.{RawDevice};
 ghost use Rattle.bsdl_parser.specs.Entity.{IsSmall};
 ghost use Rattle.device_rules.specs.Rules.{HasShortLists};
 ghost use Rattle.device_rules.specs.Raw.{HasLengths};
 ghost use Rattle.device_check.specs.declared.fault.DeviceFault.{DeviceFault};
-ghost use Rattle.device_check.specs.Needed.{v1};
-ghost use Rattle.device_check.specs.DeviceStrings.{AreStrings};
-ghost use Rattle.device_check.specs.inner.Reading.{needed_view, IsJudgedDraft};
+ghost use Rattle.device_check.specs.inner.Reading.{IsJudgedDraft};
 ghost use Rattle.device_check.specs.SoundDevice.{draft_of, IsDeviceAnswer, device_told};
 
 use crate::draft::draft_of;
@@ -63,7 +61,8 @@ fn answer(alloc: Global, entity: &Entity, package: Option<&[u8]>) -> Result<Devi
 }
 
 /// Returns the device that the entity describes in this package. If `package` is None, uses the default package of the
-/// entity's generic item. All names, texts and lists of the entity must be shorter than 2^32.
+/// entity's generic item. The entity must have fewer than 2^32 ports and texts of
+/// fewer than 2^32 bytes.
 ///
 /// The rules are checked in this order: V1; the strings of the pin map and of INSTRUCTION_OPCODE,
 /// INSTRUCTION_CAPTURE, IDCODE_REGISTER, COMPLIANCE_PATTERNS and BOUNDARY_REGISTER; V2 to V14. The

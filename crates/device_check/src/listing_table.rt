@@ -62,9 +62,8 @@ fn clear(table: &mut [Entries])
 /// No cell may have more than two entries.
 pub fn fill_entries(cells: &[Cell], from: u32, table: &mut [Entries])
     requires { (num : ℕ) → length (entries_of_cell num cells.now) ≤ 2 }
-    ensures entries { map entries_in table.new
+    ensures { map entries_in table.new
         ≡ map (λ num. entries_of_cell num cells.now) (range_with_len from (length table.old)) }
-    ensures length { length table.new ≡ length table.old }
 {
     clear(table);
     for cell in cells {

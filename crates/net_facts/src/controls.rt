@@ -241,7 +241,7 @@ fn block_part(rows: &mut [Vec<ControlClass>], board: &PulledBoard<'_, '_>, part:
 fn block_all(rows: &mut [Vec<ControlClass>], board: &PulledBoard<'_, '_>)
     ensures { table rows.new ≡ block_parts board.now (length board.now.chain) (table rows.old) }
 {
-    let _rules = board.raw();
+    board.meets_rules();
     for part in 0..board.parts() {
         block_part(rows, board, part as u32);
     }

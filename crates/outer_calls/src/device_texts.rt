@@ -52,7 +52,8 @@ pub fn parse(alloc: Global, bytes: &[u8], tokens: &[Token]) -> Result<Entity, Pa
 }
 
 /// Returns the device that the entity describes in this package, or the first rule or string that fails. If `package` is None, uses the
-/// default package of the entity's generic item. All names, texts and lists of the entity must be shorter than 2^32.
+/// default package of the entity's generic item. The entity must have fewer than 2^32 ports and texts of fewer than
+/// 2^32 bytes.
 pub fn device(alloc: Global, entity: &Entity, package: Option<&[u8]>) -> Result<Device, DeviceFault>
     requires small { IsSmall entity.now }
     ensures answer { Gives device_told (λ device. device)

@@ -5,6 +5,7 @@ mod SampleCommands
 pub mod ReadLemmas
 pub mod GiveLemmas
 pub mod RowLemmas
+pub mod ShapeLemmas
 pub mod LogLemmas
 pub mod RunLemmas
 mod SampleRuns

@@ -16,10 +16,10 @@ use Rattle.batch_diag.specs.Verdicts.{EachPair}
 use Rattle.walk_test.specs.WalkTest.{walk_row_list}
 use Rattle.btest_core.specs.BoardRead.{Denotes}
 use Rattle.commands.specs.LogRead.{test_log, test_rows, walk_log, walk_rows}
-use Rattle.commands.proofs.ShapeLemmas.{walk_shaped, walk_sized}
 use Rattle.command_line.specs.Words.{Text}
 use Rattle.promises.specs.Logs.{HoldsBoardBlock, HoldsBoardBlocks, HoldsLog, LinesAreRead}
 use Rattle.promises.proofs.RowLemmas.{rows_many}
+use Rattle.promises.proofs.ShapeLemmas.{walk_shaped, walk_sized}
 
 each_implied : {A B : Type 0} (P Q : A → B → Type 0) → ((x : A) (y : B) → P x y → Q x y)
     → (xs : List A) (ys : List B) → EachPair P xs ys → EachPair Q xs ys

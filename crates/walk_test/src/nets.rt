@@ -1,6 +1,6 @@
 // Makes the parts of a walk, which is the walking test of one board: its setting, its nets, their cells, and the rows
 // that all scans share.
-ghost use Rattle.std.specs.Prelude.{◌≡◌, ◌<◌, ◌^◌, is_some, map, length, Some, None, slice_get, IfOk};
+ghost use Rattle.std.specs.Prelude.{◌≡◌, ◌<◌, is_some, map, length, Some, None, slice_get, IfOk};
 ghost use Rattle.std.specs.Option.{option_to_list};
 ghost use Rattle.board_defs.specs.Passes.{passes_of};
 ghost use Rattle.board_defs.specs.Pins.{data_bits};
@@ -184,7 +184,6 @@ pub fn walk_parts(
     requires passes { slice_get passes.now 0 ≡ slice_get (passes_of board.now) 0 }
     ensures settings { IfOk result
         (λ parts. parts.settings.items ≡ option_to_list (walk_setting board.now)) }
-    ensures few { IfOk result (λ parts. length parts.settings.items < 2 ^ 32) }
     ensures plannable { IfOk result (λ parts. ArePlannable board.now parts.settings.items) }
     ensures nets { IfOk result
         (λ parts. parts.nets ≡ nets_by pins.now (walk_setting board.now) (length board.now.nets)) }

@@ -1,7 +1,7 @@
 // The walk setting: the first pass of a board's test, but without the controls of switching drivers. A
 // switching driver is a driver whose own cell is also its control cell, on an unguarded net that is pulled to
 // the driver's disable value. A net is guarded if, for example, it carries a supply.
-ghost use Rattle.std.specs.Prelude.{◌≡◌, ◌<◌, ◌^◌, ◌∷◌, [], if◌then◌else◌, filter, not, length, slice_get, Some, IfOk, OnOk};
+ghost use Rattle.std.specs.Prelude.{◌≡◌, ◌<◌, ◌∷◌, [], if◌then◌else◌, filter, not, slice_get, Some, IfOk, OnOk};
 ghost use Rattle.std.specs.Option.{option_to_list};
 ghost use Rattle.board_defs.specs.Passes.{passes_of};
 ghost use Rattle.board_defs.specs.Pins.{guarded_at};
@@ -150,7 +150,6 @@ pub fn walk_settings(
     requires { slice_get passes.now 0 ≡ slice_get (passes_of board.now) 0 }
     ensures settings { IfOk result
         (λ settings. settings.items ≡ option_to_list (walk_setting board.now)) }
-    ensures few { IfOk result (λ settings. length settings.items < 2 ^ 32) }
     ensures plannable { IfOk result (λ settings. ArePlannable board.now settings.items) }
 {
     let _rules = board.raw();

@@ -1,14 +1,13 @@
-use Rattle.std.proofs.Common.{ℕ, Bool, List, refl, subst, sym}
+use Rattle.std.proofs.Common.{ℕ, List, refl, subst, sym}
 use Rattle.std.specs.Prelude.{All}
 use Rattle.board_defs.specs.declared.board.RawBoard.{RawBoard}
 use Rattle.board_defs.specs.BoardRules.{IsBoard}
 use Rattle.board_defs.specs.Pins.{data_bits}
 use Rattle.tap_defs.specs.board.BoardScans.{svf_row_scans}
-use Rattle.tap_defs.specs.board.Explaining.{HasShape}
 use Rattle.response_log.specs.LogRows.{HasSize}
 use Rattle.batch_diag.specs.Verdicts.{Verdict}
 use Rattle.batch_diag.specs.BatchText.{batch_text}
-use Rattle.commands.specs.LogRead.{OnBoard, judging_each, test_rows, verdicts_text}
+use Rattle.commands.specs.LogRead.{OnBoard, judging_each, verdicts_text}
 use Rattle.commands.specs.Worth.{DiagnosesEach, RespondOnce, TestMeans}
 use Rattle.commands.specs.inner.Unput.{PutsText}
 use Rattle.commands.proofs.AnswerLemmas.{text_judged}
@@ -37,9 +36,6 @@ returns g c =
     let rules = subst (λ (b : RawBoard). IsBoard b) c.board-board.ensures laws.rules in
     let means = subst (λ (b : RawBoard). TestMeans b) c.board-board.ensures (laws.means (svf_row_scans c.board-board.result.now)) in
     let respond = subst (λ (b : RawBoard). RespondOnce b) c.board-board.ensures laws.respond in
-    let shaped = subst
-    (λ (b : RawBoard). (log : List (List Bool)) → HasSize (test_rows b) (data_bits b) log
-    → HasShape b (svf_row_scans b) log) c.board-board.ensures laws.shaped in
     let right = each_right laws.listed laws.unexplained board rules blocks verdicts judged in
     let puts = subst
     (λ (b : RawBoard). PutsText (batch_text b blocks c.deref.result.now)
@@ -56,8 +52,6 @@ returns g c =
       respond = respond;
       blocks = blocks;
       read = read;
-      shapes = λ k d less.
-          shaped _ (c.requires.size k d less);
       verdicts = verdicts;
       right = right;
       is = refl;

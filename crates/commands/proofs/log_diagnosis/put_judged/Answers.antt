@@ -1,16 +1,12 @@
-use Rattle.std.proofs.Common.{ℕ, Bool, List, refl, subst}
+use Rattle.std.proofs.Common.{refl, subst}
 use Rattle.board_defs.specs.declared.board.RawBoard.{RawBoard}
 use Rattle.board_defs.specs.BoardRules.{IsBoard}
-use Rattle.board_defs.specs.Pins.{data_bits}
 use Rattle.tap_defs.specs.board.BoardScans.{svf_row_scans}
-use Rattle.tap_defs.specs.board.Explaining.{HasShape}
-use Rattle.response_log.specs.LogRows.{HasSize}
 use Rattle.diagnoser.specs.DiagText.{diag_text}
-use Rattle.commands.specs.LogRead.{OnBoard, diagnosing, diagnosis_text, test_rows}
+use Rattle.commands.specs.LogRead.{OnBoard, diagnosing, diagnosis_text}
 use Rattle.commands.specs.Worth.{Diagnoses, RespondOnce, TestMeans}
 use Rattle.commands.specs.inner.Unput.{PutsText}
 use Rattle.commands.proofs.AnswerLemmas.{text_judged}
-use Rattle.commands.proofs.TestLemmas.{rows_are}
 use Rattle.commands.proofs.VerdictLemmas.{is_right}
 use Rattle.commands.proofs.log_diagnosis.put_judged.Goals as goal
 
@@ -28,12 +24,6 @@ returns g c =
     let rules = subst (λ (b : RawBoard). IsBoard b) c.board-board.ensures laws.rules in
     let means = subst (λ (b : RawBoard). TestMeans b) c.board-board.ensures (laws.means (svf_row_scans c.board-board.result.now)) in
     let respond = subst (λ (b : RawBoard). RespondOnce b) c.board-board.ensures laws.respond in
-    let shaped = subst
-    (λ (b : RawBoard). (log : List (List Bool)) → HasSize (test_rows b) (data_bits b) log
-    → HasShape b (svf_row_scans b) log) c.board-board.ensures laws.shaped in
-    let size = subst (λ (n : ℕ). HasSize n (data_bits board) rows)
-    (rows_are board logged.test.plan c.plan-plan.ensures.plan c.plan-plan.ensures.passes)
-    c.log-log.ensures.rows in
     let right = is_right laws.listed laws.unexplained board rules rows verdict.pass verdict.faults known.passes known.list in
     let puts = subst
     (λ (b : RawBoard). PutsText (diag_text b verdict.pass verdict.faults)
@@ -48,7 +38,6 @@ returns g c =
       respond = respond;
       rows = rows;
       read = read;
-      shape = shaped rows size;
       pass = verdict.pass;
       faults = verdict.faults;
       right = right;

@@ -29,7 +29,6 @@ returns g c =
     let board = c.walked.inside.board in
     let rules = c.raw-rules.ensures.rules in
     let rows = c.args.log.now in
-    let size = subst (λ (p : WalkedBoard). HasSize (walk_rows p.board) (data_bits p.board) rows) (sym c.walked.view_is) c.requires.size in
     let found : Option (List (List ℕ)) = option_map (λ groups. groups.items) c.in_ok-found.found in
     subst
     (λ (p : WalkedBoard). (text : Text) → walk_log text p.board ≡ Ok rows
@@ -42,7 +41,6 @@ returns g c =
       means = c.test_means.ensures (walk_row_list board);
       rows = rows;
       read = read;
-      shape = c.walk_logs_shaped.ensures rows size;
       found = found;
       exactly = exactly_found c.one_set.ensures board rules rows found c.in_ok-found.ensures.found;
       respond = λ groups are. c.groups_respond.ensures.some board groups rules are;

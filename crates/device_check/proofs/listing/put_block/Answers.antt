@@ -9,5 +9,5 @@ returns-clause-text g c =
     prints_same
     (table_text d.ports _ d.bits _ d.cells _ c.args.from (length c.args.table.now) _
     c.as_slice-2.ensures c.as_slice-3.ensures c.as_slice.ensures
-    c.fill_entries.ensures.entries)
+    c.fill_entries.ensures)
     c.put_table.ensures

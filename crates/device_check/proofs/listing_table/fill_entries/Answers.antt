@@ -34,12 +34,8 @@ pub returns : goal.returns
 returns c =
     let cells = c.args.cells.now in
     let f = λ (num : ℕ). entries_of_cell num cells in
-    record {
-      entries =
-          table_is f c.args.from c.loop-cell.table
-          (λ k less. c.loop-cell.invariant.each k less
-          ∙ ap (entries_of_cell (c.args.from + k))
-          (take_all c.loop-cell.cell-index cells (omega arith)))
-          ∙ ap (λ n. map f (range_with_len c.args.from n)) c.loop-cell.invariant.places;
-      length = c.loop-cell.invariant.places;
-    }
+    table_is f c.args.from c.loop-cell.table
+    (λ k less. c.loop-cell.invariant.each k less
+    ∙ ap (entries_of_cell (c.args.from + k))
+    (take_all c.loop-cell.cell-index cells (omega arith)))
+    ∙ ap (λ n. map f (range_with_len c.args.from n)) c.loop-cell.invariant.places

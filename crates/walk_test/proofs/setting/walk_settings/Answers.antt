@@ -1,4 +1,4 @@
-use Rattle.std.proofs.Common.{◌≡◌, [], List, Option, Some, None, refl, ap, sym, subst, ◌∙◌, arith}
+use Rattle.std.proofs.Common.{◌≡◌, List, Option, Some, None, ap, sym, subst, ◌∙◌}
 use Rattle.std.specs.Prelude.{option_map, slice_get}
 use Rattle.std.specs.Option.{option_to_list}
 use Rattle.board_defs.specs.declared.board.Ctl.{Ctl}
@@ -19,7 +19,6 @@ returns-in-None c =
     ∙ ap (λ (o : Option (List Ctl)). option_map (without_switching board) o) first in
     record {
       settings = c.new.ensures.items ∙ sym (ap (λ (o : Option (List Ctl)). option_to_list o) none);
-      few = omega (arith, ap (λ l. Rattle.std.proofs.Common.length l) c.new.ensures.items);
       plannable = subst (λ (l : List (List Ctl)). ArePlannable board l) (sym c.new.ensures.items) (nothing_plannable board);
     }
 

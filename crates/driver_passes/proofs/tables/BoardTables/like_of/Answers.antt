@@ -16,7 +16,4 @@ returns-in-Some c =
     ∙ get_or_default likes net like 0 there
     ∙ ap (λ v. get_or v net 0) c.deref.ensures.value in
     let less : net < length board.nets = omega (arith, there, ap length c.deref.ensures.value, are.likes_length) in
-    record {
-      within = omega (arith, is, are.likes_within net less);
-      alike = rw (sym c.self.view_is) (ap (drivers_at board) is ∙ are.likes_are net less);
-    }
+    rw (sym c.self.view_is) (ap (drivers_at board) is ∙ are.likes_are net less)
