@@ -20,3 +20,4 @@ pub mod DiagnosisLemmas
 mod OneWayLemmas
 mod Samples
 mod SampleEffects
+mod SampleSuspects

@@ -19,6 +19,7 @@ use Rattle.tap_defs.specs.board.TestRows.{TestRow, quiet_row}
 use Rattle.tap_defs.specs.board.BoardScans.{RowScan, row_bits, is_walked, walk_row, walk_row_scans, row_now}
 use Rattle.tap_defs.specs.board.RowCaptures.{row_states, row_captured, AgreeAt, AgreeWhereCompared}
 use Rattle.tap_defs.specs.board.Explaining.{compared_scans, CompareRows, HasShape, ExplainedBy, IsCapturedBy}
+use Rattle.tap_defs.proofs.chain.ListLemmas.{Rises}
 use Rattle.tap_defs.proofs.board.CellPlaceLemmas.{agree_at, agree_from, captured_cell}
 use Rattle.tap_defs.proofs.board.LogLemmas.{rows_counted}
 use Rattle.tap_defs.proofs.board.PlanLemmas.{observed_by}
@@ -30,7 +31,7 @@ use Rattle.walk_test.specs.WalkTest.{walk_setting, walk_nets}
 use Rattle.walk_test.specs.Groups.{AreGroups, group_of, or_shorts}
 use Rattle.walk_test.specs.inner.Reading.{are_joined}
 use Rattle.walk_test.specs.Tables.{mask_of}
-use Rattle.walk_test.proofs.GroupLemmas.{Rises, AreOrdered, groups_ordered, group_found, group_is}
+use Rattle.walk_test.proofs.GroupLemmas.{AreOrdered, groups_ordered, group_found, group_is}
 use Rattle.walk_test.proofs.CellLemmas.{IsWalkSetting, WalkedBy, compared_of, captured_is, cell_is}
 use Rattle.walk_test.proofs.NetLemmas.{walk_has, count_is, marked_is, no_nets}
 use Rattle.walk_test.proofs.RowLemmas.{CellsOf, ComparedAt, compared_at, laid_here, mask_here}

@@ -8,40 +8,9 @@ use Rattle.std.proofs.lemmas.Bool.{eqb-true, eq-eqb, or_cases, or_left, or_right
 use Rattle.board_defs.specs.declared.board.RawBoard.{RawBoard}
 use Rattle.board_defs.proofs.Members.{Has, has_at, has_place, any_has, has_any, has_contains, has_from_all}
 use Rattle.board_defs.proofs.Ordered.{InOrder, pairs_order}
-use Rattle.tap_defs.proofs.chain.ListLemmas.{cons_path}
+use Rattle.tap_defs.proofs.chain.ListLemmas.{cons_path, Rises, le_first, rising_same}
 use Rattle.walk_test.specs.Groups.{Rise, least_of, AreGroups, group_from, group_of}
 use Rattle.walk_test.specs.inner.Reading.{is_one_group, are_joined}
-
-abbrev pub Rises : List ℕ → Type 0
-Rises xs = InOrder (λ a b. a < b) xs
-
-le_first : (x : ℕ) (xs : List ℕ) (y : ℕ) → Rises (x ∷ xs) → Has (x ∷ xs) y → x ≤ y
-le_first x xs y rise (inl e) = omega (arith, e)
-le_first x xs y rise (inr has) = omega (arith, rise.0 y has)
-
-rising_same : (xs ys : List ℕ) → Rises xs → Rises ys → ((x : ℕ) → Has xs x → Has ys x) → ((x : ℕ) → Has ys x → Has xs x) → xs ≡ ys
-rising_same [] [] p q to from = refl
-rising_same [] (y ∷ ys) p q to from = absurd (from y (inl refl))
-rising_same (x ∷ xs) [] p q to from = absurd (to x (inl refl))
-rising_same (x ∷ xs) (y ∷ ys) p q to from =
-    let high : y ≤ x = le_first y ys x q (to x (inl refl)) in
-    let low : x ≤ y = le_first x xs y p (from y (inl refl)) in
-    let same : x ≡ y = omega (arith, high, low) in
-    cons_path same (rising_same xs ys p.1 q.1
-    (λ z has. by_to z (p.0 z has) (to z (inr has)))
-    (λ z has. by_from z (q.0 z has) (from z (inr has))))
-  where
-    by_to : (z : ℕ) → x < z → (y ≡ z) ⊎ Has ys z → Has ys z
-    by_to z less (inl e) =
-        let high : y ≤ x = le_first y ys x q (to x (inl refl)) in
-        absurd (omega (arith, less, e, high))
-    by_to z less (inr has) = has
-
-    by_from : (z : ℕ) → y < z → (x ≡ z) ⊎ Has xs z → Has xs z
-    by_from z less (inl e) =
-        let low : x ≤ y = le_first x xs y p (from y (inl refl)) in
-        absurd (omega (arith, less, e, low))
-    by_from z less (inr has) = has
 
 pub least_has : (group : List ℕ) → 2 ≤ length group → Has group (least_of group)
 least_has [] some = absurd (omega (arith, some))

@@ -17,11 +17,12 @@ use Rattle.board_defs.proofs.Ordered.{InOrder, order_pairs, order_flat_map, orde
 use Rattle.board_defs.proofs.Places.{all_from}
 use Rattle.board_defs.proofs.SameBits.{same_of_is_same, is_same_of_same}
 use Rattle.response_log.specs.LogRows.{bit_in}
+use Rattle.tap_defs.proofs.chain.ListLemmas.{Rises}
 use Rattle.walk_test.specs.declared.tables.NetCells.{NetCells}
 use Rattle.walk_test.specs.WalkTest.{walk_nets}
 use Rattle.walk_test.specs.Groups.{Rise, least_of, AreGroups}
 use Rattle.walk_test.specs.inner.Reading.{are_joined, first_one, label_of, net_shows, ShowsLabelsIn, ShowsLabels, members, group_at, groups_by}
-use Rattle.walk_test.proofs.GroupLemmas.{Rises, least_has, least_le, Before, AreOrdered, Together, joined_cases, joined_self, joined_in}
+use Rattle.walk_test.proofs.GroupLemmas.{least_has, least_le, Before, AreOrdered, Together, joined_cases, joined_self, joined_in}
 
 pub first_low : (log : List (List Bool)) (at j : ℕ) → bit_in log j at ≡ true → first_one log at ≤ j
 first_low [] at j e = cc e

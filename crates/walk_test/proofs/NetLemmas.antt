@@ -13,8 +13,8 @@ use Rattle.board_defs.proofs.Members.{has_place, contains_has}
 use Rattle.board_defs.proofs.Ordered.{order_filter, order_range}
 use Rattle.tap_defs.specs.board.TestRows.{observing_driver}
 use Rattle.tap_defs.specs.board.BoardScans.{is_walked}
+use Rattle.tap_defs.proofs.chain.ListLemmas.{Rises}
 use Rattle.walk_test.specs.WalkTest.{is_walk_net, walk_setting, walk_nets}
-use Rattle.walk_test.proofs.GroupLemmas.{Rises}
 use Rattle.walk_test.proofs.CellLemmas.{WalkedBy}
 
 count_cons : {X : Type 0} (p : X → Bool) (x : X) (xs : List X) → count_by p (x ∷ xs) ≡ cond (p x) 1 0 + count_by p xs
