@@ -1,38 +1,23 @@
 -- Samples of wrong lists of the single faults that explain a log.
-use Rattle.std.proofs.Common.{◌≡◌, Bool, List, [], ◌∷◌, map, length, None, refl, inl, inr, arith}
+use Rattle.std.proofs.Common.{Bool, List, [], ◌∷◌, map, refl, inl, inr, arith}
 use Rattle.std.proofs.lemmas.Bool.{both_ways}
-use Rattle.std.proofs.lemmas.List.Elements.{All-from_recursion}
-use Rattle.board_defs.specs.declared.board.RawBoard.{RawBoard}
 use Rattle.board_defs.specs.declared.fault.Single.{Single}
-use Rattle.board_defs.specs.declared.fault.Single.TheVariants.{StuckNet, OpenPin}
-use Rattle.board_defs.specs.BoardRules.{IsBoard}
+use Rattle.board_defs.specs.declared.fault.Single.TheVariants.{StuckNet}
 use Rattle.board_defs.specs.Coverage.{IsCovered}
 use Rattle.board_defs.specs.Faults.{SinglePrecedes}
-use Rattle.board_defs.specs.Pins.{data_bits}
-use Rattle.board_defs.proofs.BoardChecks.{board_of}
 use Rattle.board_defs.proofs.Covered.{covered_is}
-use Rattle.board_defs.proofs.Samples.{board, net, pin}
-use Rattle.tap_defs.specs.chain.Run.{Choice}
 use Rattle.tap_defs.specs.board.TestRows.{quiet_row}
 use Rattle.tap_defs.specs.board.BoardScans.{scan_of_row, svf_row_scans}
 use Rattle.tap_defs.specs.board.RowCaptures.{CapturesPass}
 use Rattle.tap_defs.specs.board.Explaining.{set_of, scans_by_log, Explains}
 use Rattle.tap_defs.proofs.board.CaptureLemmas.{log_captured}
-use Rattle.tap_defs.proofs.board.SampleBoards.{drv, rcv}
 use Rattle.tap_defs.proofs.chain.SampleTexts.{on, off}
+use Rattle.tap_defs.proofs.board.SampleLogs.{free, open_pin, two_nets, two_nets_rules, row, explained}
 use Rattle.diagnoser.specs.Laws.{ListsExplaining}
 
--- a board with two nets, each from a driver to a receiver
-abbrev two_nets : RawBoard
-two_nets = board (drv ∷ rcv ∷ []) (net 1 None (pin 0 0 ∷ pin 1 0 ∷ []) ∷ net 2 None (pin 0 1 ∷ pin 1 1 ∷ []) ∷ [])
-
-two_nets_rules : IsBoard two_nets
-two_nets_rules = board_of two_nets refl
-
--- A log in which the first net has 0 in both rows, and the second net has the expected bits, 0 and 1. The first two bits of a row are those
--- of the nets. The test does not compare the other bits.
+-- a log in which the first net has 0 in both rows, and the second net has the expected bits, 0 and 1
 abbrev log : List (List Bool)
-log = (off ∷ off ∷ off ∷ off ∷ []) ∷ (off ∷ on ∷ off ∷ off ∷ []) ∷ []
+log = row off off ∷ row off on ∷ []
 
 -- the first net is stuck at 0
 abbrev first_stuck : Single
@@ -44,31 +29,14 @@ second_stuck = StuckNet 1 off
 
 -- the driver of the first net is open, and its value is 0
 abbrev first_open : Single
-first_open = OpenPin (record { net = 0; place = 0 }) off
+first_open = open_pin 0 0 off
 
 -- the list is not the list of the single faults that explain the log
 abbrev Wrong : List Single → Type 0
 Wrong faults = ListsExplaining two_nets log faults → ⊥
 
 first_covered : IsCovered two_nets 0
-first_covered = covered_is two_nets 0 (net 1 None (pin 0 0 ∷ pin 1 0 ∷ [])) two_nets_rules refl refl
-
-first_explains : Explains two_nets first_stuck log
-first_explains = record {
-  shape =
-      record { rows = refl; bits = All-from_recursion (λ (row : List Bool). length row ≡ data_bits two_nets) log (refl, (refl, tt)) };
-  passes = (log_captured two_nets two_nets_rules (set_of first_stuck) (svf_row_scans two_nets) log).1
-      (λ choice. refl, (λ choice. refl, (λ choice. refl, tt)));
-}
-
--- the choice in which every free bit of the model is 0
-abbrev all_off : Choice
-all_off =
-    record {
-      parts = λ k. record { ir = λ i. off; cells = λ i. off; latches = λ i. off; tdo = off; other = off };
-      shorts = λ k. off;
-      tdi = off;
-    }
+first_covered = covered_is two_nets 0 _ two_nets_rules refl refl
 
 second_captured : Explains two_nets second_stuck log
     → CapturesPass two_nets (set_of second_stuck) quiet_row (svf_row_scans two_nets)
@@ -77,12 +45,12 @@ second_captured explains = (log_captured two_nets two_nets_rules (set_of second_
 
 -- the second net has 1 in the second row of the log, so it is not stuck at 0
 second_unexplaining : Explains two_nets second_stuck log → ⊥
-second_unexplaining explains = both_ways _ refl ((second_captured explains).1.1.0 all_off)
+second_unexplaining explains = both_ways _ refl ((second_captured explains).1.1.0 (free off))
 
 -- A list must have each single fault that explains the log. It must have no fault that does not explain the log, and no fault of a net that
 -- is not on the board.
 fault_left_out : Wrong []
-fault_left_out lists = let found = (lists.exactly first_stuck).1 (first_covered, first_explains) in omega (arith, found.1)
+fault_left_out lists = let found = (lists.exactly first_stuck).1 (first_covered, explained) in omega (arith, found.1)
 
 wrong_fault : Wrong (second_stuck ∷ [])
 wrong_fault lists = second_unexplaining ((lists.exactly second_stuck).0 (0, omega arith, refl)).1

@@ -5,10 +5,6 @@ use Rattle.std.specs.Prelude.{codes, Contains, All}
 use Rattle.std.specs.Fmt.{digits}
 use Rattle.std.proofs.lemmas.Bool.{both_ways}
 use Rattle.std.proofs.lemmas.List.Elements.{All-from_recursion}
-use Rattle.board_defs.specs.declared.device.RawDevice.{RawDevice}
-use Rattle.board_defs.specs.declared.board.PartKind.TheVariants.{Described}
-use Rattle.board_defs.specs.declared.board.Part.{Part}
-use Rattle.board_defs.specs.declared.board.NetPin.{NetPin}
 use Rattle.board_defs.specs.declared.board.Net.{Net}
 use Rattle.board_defs.specs.declared.board.RawBoard.{RawBoard}
 use Rattle.board_defs.specs.BoardRules.{IsBoard}
@@ -16,33 +12,22 @@ use Rattle.board_defs.specs.Pins.{data_bits}
 use Rattle.board_defs.proofs.BoardChecks.{board_of}
 use Rattle.board_defs.proofs.Members.{Has}
 use Rattle.board_defs.proofs.Ordered.{order_pairs}
-use Rattle.tap_defs.specs.chain.Run.{Choice}
 use Rattle.tap_defs.specs.board.TestRows.{quiet_row}
 use Rattle.tap_defs.specs.board.BoardScans.{scan_of_row}
 use Rattle.tap_defs.specs.board.RowCaptures.{row_captured, CapturesPass}
 use Rattle.tap_defs.specs.board.Explaining.{scans_by_log}
 use Rattle.tap_defs.proofs.board.CaptureLemmas.{log_captured}
 use Rattle.tap_defs.proofs.chain.SampleTexts.{on, off}
-use Rattle.tap_defs.proofs.board.SampleBoards.{drv, rcv, pin, net, three_wires}
+use Rattle.tap_defs.proofs.board.SampleBoards.{drv, rcv, net, three_wires}
+use Rattle.tap_defs.proofs.board.SampleLogs.{free, named_part, named, pin_of}
 use Rattle.walk_test.specs.WalkTest.{walk_nets, walk_row_list}
 use Rattle.walk_test.specs.Groups.{Rise, AreGroups, or_shorts, Explain}
 use Rattle.walk_test.specs.GroupText.{groups_text}
 use Rattle.walk_test.specs.inner.Tables.{walk_row_of}
 use Rattle.walk_test.proofs.SampleTests.{two_passes, two_passes_nets}
 
--- the choice in which every free bit of the model is 0
-abbrev all_off : Choice
-all_off =
-    record {
-      parts = λ k. record
-          { ir = λ i. off; cells = λ i. off; latches = λ i. off; tdo = off; other = off };
-      shorts = λ
-          k. off;
-      tdi = off;
-    }
-
 abbrev shown : List (List ℕ) → List (List Bool)
-shown groups = map (λ j. row_captured three_wires (or_shorts groups) (walk_row_of three_wires j) all_off) (0 ∷ 1 ∷ 2 ∷ [])
+shown groups = map (λ j. row_captured three_wires (or_shorts groups) (walk_row_of three_wires j) (free off)) (0 ∷ 1 ∷ 2 ∷ [])
 
 -- a row in which the receivers of the first three nets read these bits
 abbrev read_row : Bool → Bool → Bool → List Bool
@@ -63,20 +48,13 @@ second_and_third_shown = refl
 all_shown : shown ((0 ∷ 1 ∷ 2 ∷ []) ∷ []) ≡ read_row on on on ∷ read_row on on on ∷ read_row on on on ∷ []
 all_shown = refl
 
--- a described part with this name
-abbrev part_of : List ℕ → RawDevice → Part
-part_of name device = record { name = name; kind = Described device }
-
-abbrev pin_of : ℕ → ℕ → NetPin
-pin_of part bit = record (pin part bit) { part = 85 ∷ (49 + part) ∷ []; pin = (49 + bit) ∷ [] }
-
 abbrev wire : List ℕ → ℕ → ℕ → Net
-wire name part bit = record (net (pin_of part bit ∷ pin_of (part + 2) bit ∷ [])) { name = name }
+wire name part bit = named name (net (pin_of part bit ∷ pin_of (part + 2) bit ∷ []))
 
 -- a board with four nets from parts U1 and U2 to parts U3 and U4
 abbrev four_wires : RawBoard
 four_wires = record {
-  chain = part_of (codes "U1") drv ∷ part_of (codes "U2") drv ∷ part_of (codes "U3") rcv ∷ part_of (codes "U4") rcv ∷ [];
+  chain = named_part (codes "U1") drv ∷ named_part (codes "U2") drv ∷ named_part (codes "U3") rcv ∷ named_part (codes "U4") rcv ∷ [];
   nets = wire (codes "A") 0 0 ∷ wire (codes "B") 0 1 ∷ wire (codes "C") 1 0 ∷ wire (codes "D") 1 1 ∷ [];
 }
 
@@ -166,10 +144,10 @@ abbrev IsUnexplained : List (List Bool) → Type 0
 IsUnexplained log = Explain four_wires log one_short → ⊥
 
 and_log : IsUnexplained (log_of (read_row off off off) (read_row off on off) (read_row off off off))
-and_log h = both_ways _ refl ((rows_pass _ h).1.0 all_off)
+and_log h = both_ways _ refl ((rows_pass _ h).1.0 (free off))
 
 one_way_log : IsUnexplained (log_of (read_row on off off) (read_row off on off) (read_row on off on))
-one_way_log h = both_ways _ refl ((rows_pass _ h).1.0 all_off)
+one_way_log h = both_ways _ refl ((rows_pass _ h).1.0 (free off))
 
 -- the text names the nets of each group in net order
 two_groups_text : groups_text four_wires (Some ((0 ∷ 2 ∷ []) ∷ (1 ∷ 3 ∷ []) ∷ []))

@@ -39,7 +39,7 @@ use Rattle.tap_defs.proofs.chain.SampleTexts.{on, off}
 use Rattle.tap_defs.proofs.board.SampleBoards.{drv, rcv, rcv1, od, pin, pulled}
 
 -- the choice in which all free bits are `bit`
-abbrev free : Bool → Choice
+abbrev pub free : Bool → Choice
 free bit =
     record {
       parts = λ k. record
@@ -95,22 +95,22 @@ abbrev predicted : RawBoard → List (List Bool) → List Single
 predicted board log = filter (λ single. rows_agree board single (compared_scans board (svf_row_scans board)) log) (singles board)
 
 -- parts and nets with given names
-abbrev named_part : List ℕ → RawDevice → Part
+abbrev pub named_part : List ℕ → RawDevice → Part
 named_part name device = record { name = name; kind = Described device }
 
-abbrev named : List ℕ → Net → Net
+abbrev pub named : List ℕ → Net → Net
 named name net = record net { name = name }
 
 -- a pin whose names are made from its numbers; the four port bits of the test access port are not counted
-abbrev pin_of : ℕ → ℕ → NetPin
+abbrev pub pin_of : ℕ → ℕ → NetPin
 pin_of part bit = record (pin part bit) { part = 85 ∷ (49 + part) ∷ []; pin = (49 + bit) ∷ [] }
 
-abbrev open_pin : ℕ → ℕ → Bool → Single
+abbrev pub open_pin : ℕ → ℕ → Bool → Single
 open_pin net place value = OpenPin (record { net = net; place = place }) value
 
 -- A board with two nets, each from a driver to a receiver. The nets have the codes 1 and 2. A log has two rows, and the
 -- first two bits of a row are those of the nets.
-abbrev two_nets : RawBoard
+abbrev pub two_nets : RawBoard
 two_nets = record {
   chain = named_part (codes "U1") drv ∷ named_part (codes "U2") rcv ∷ [];
   nets =
@@ -118,10 +118,10 @@ two_nets = record {
       ∷ named (codes "N2") (pulled None (pin_of 0 1 ∷ pin_of 1 1 ∷ [])) ∷ [];
 }
 
-two_nets_rules : IsBoard two_nets
+pub two_nets_rules : IsBoard two_nets
 two_nets_rules = board_of two_nets refl
 
-abbrev row : Bool → Bool → List Bool
+abbrev pub row : Bool → Bool → List Bool
 row first second = first ∷ second ∷ off ∷ off ∷ []
 
 abbrev expected_log : List (List Bool)
@@ -173,7 +173,7 @@ no_single_cells : predicted two_nets (row on off ∷ row on off ∷ []) ≡ []
 no_single_cells = refl
 
 -- by definition, the fault "first net stuck at 0" explains a log in which the first net has 0 in both rows
-explained : Explains two_nets (StuckNet 0 off) (row off off ∷ row off on ∷ [])
+pub explained : Explains two_nets (StuckNet 0 off) (row off off ∷ row off on ∷ [])
 explained = record {
   shape =
       record {
