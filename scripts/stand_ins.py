@@ -13,6 +13,7 @@ from typing import Any, Dict, Iterator, List, Optional, Set
 
 import build
 import weaker_forms
+from built_code import Code
 from weaker_forms import Form, Function, Record
 
 # Outside the checkout, where `rt ci` refuses a second crates.txt.
@@ -126,6 +127,11 @@ class Crate:
         place = [module_of(it.path)] if it.is_of_trait else self.place(it)
         return "::".join([self.name, *place])
 
+    def paths(self) -> List[str]:
+        """Returns the paths of all functions but the methods of traits."""
+        found = [it for each in self.functions.values() for it in each]
+        return [self.path_of(it) for it in found if not it.is_of_trait]
+
     def name_in_lines(self, it: Function) -> "re.Pattern[str]":
         """Returns what a check's lines call a function and its closures."""
         place = "::".join(map(re.escape, [self.name, *self.place(it)[:-1]]))
@@ -184,6 +190,7 @@ class Room:
         # The crates from below.
         self.order = sorted(self.under, key=lambda name: (len(self.under[name]), name))
         self.crates = {it: Crate(it, f"{checked}/crates/{it}") for it in self.order}
+        self.codes: Dict[str, Code] = {}
         self.kit = os.path.dirname(printed(["rt", "doc"]).strip())
 
     @functools.cached_property
@@ -196,6 +203,23 @@ class Room:
                     for name, names in weaker_forms.clause_names(read(f"{at}/{file}")).items():
                         found.setdefault(name, set()).update(names)
         return found
+
+    def has_in_kit(self, names: List[str], clause: str) -> bool:
+        """Returns whether a function of the kit with one of some names has a clause."""
+        return any(clause in self.of_kit.get(it, ()) for it in names)
+
+    def code(self, name: str) -> Code:
+        """Returns the code of a crate's built library, which is read at the first call."""
+        if name not in self.codes:
+            library = f"{self.checked}/crates/{name}/out/rlib/{name}.rlib"
+            self.codes[name] = Code(library, self.crates[name].paths())
+        return self.codes[name]
+
+    def called(self, name: str, it: Function) -> Optional[Set[str]]:
+        """Returns the paths in the code of a crate's function, or None if they aren't known."""
+        if it.is_of_trait:
+            return self.code(name).called_by_methods(it.name)
+        return self.code(name).called(self.crates[name].path_of(it))
 
     def finds_under(self, name: str) -> Set[str]:
         """Finds all crates of the program below a crate, and below each of these."""

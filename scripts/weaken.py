@@ -12,22 +12,26 @@ in specs/. A WORD chooses the forms that have it in their title, as --list print
 The weaker forms of a clause are nothing in its place, and for `A <-> B` also `A -> B` and `B -> A`.
 If a proof refuses one of these two, nothing in its place isn't tried: it says even less.
 
-A proof can refuse a form of a function only if it is the proof of a caller. The script works in a
-copy, the room, which is among the temporary files if --room doesn't name it. In most rounds all
-functions but some callers are stand-ins (stand_ins.py), so a round costs the proofs of these
-callers and what each check loads. Such a round weakens many functions, and each of its callers
-calls a single one of them. A caller that is proved without all clauses of this function refuses no
-form of them. If it is not proved and its proof doesn't name the clause that it misses, the clauses
-are tried one by one. Callers in the crate itself come first, then those in the crates above it,
-from below. A clause that a caller's proof cites needs no round.
+A proof can refuse a form of a function only if it is the proof of a caller. A caller has the name
+of the function in its body, and the code of its built library calls the function (built_code.py).
+So a call of another type's method with the same name doesn't count. If the code lacks the caller or
+the function, the name alone decides.
 
-At first one caller of each form is tried. Then all clauses that are left are dropped at once. The
-check is of the whole crate, and none of its functions is a stand-in. An error in a caller's proof
-may name the clause that is missing. If only one of the functions that the caller calls lacks a
-clause of this name, the clause comes back. The crate is checked again, until no error names such a
-clause. Then the other callers are tried. Those come first that were not proved when all clauses
-were dropped. The others follow, and none is left out: a caller that was proved may still need a
-clause, since its own promise lost clauses too.
+The script works in a copy, the room, which is among the temporary files if --room doesn't name it.
+In most rounds all functions but some callers are stand-ins (stand_ins.py), so a round costs the
+proofs of these callers and what each check loads. Such a round weakens many functions, and each of
+its callers calls a single one of them. A caller that is proved without all clauses of this function
+refuses no form of them. If it is not proved and its proof doesn't name the clause that it misses,
+the clauses are tried one by one. Callers in the crate itself come first, then those in the crates
+above it, from below. A clause that a caller's proof cites needs no round.
+
+At first one caller of each form is tried. Then all clauses that are left and have other callers in
+the crate are dropped at once. The check is of the whole crate, and none of its functions is a
+stand-in. An error in a caller's proof may name the clause that is missing. If only one of the
+functions that the caller calls lacks a clause of this name, the clause comes back. The crate is
+checked again, until no error names such a clause. Then the other callers are tried. Those come
+first that were not proved when all clauses were dropped. The others follow, and none is left out: a
+caller that was proved may still need a clause, since its own promise lost clauses too.
 
 A field is needed by each declaration that names it after a dot. To find out which record a name is
 of, a round writes wrong names in a crate, and the error of a declaration says which record has no

@@ -4,7 +4,7 @@ import time
 from typing import Dict, Iterator, List, NamedTuple, Optional, Set, Tuple
 
 import weaker_forms
-from stand_ins import Room
+from stand_ins import Crate, Room
 from weaken_at_once import AtOnce
 from weaken_readers import (
     CASCADES,
@@ -49,9 +49,10 @@ class Witnesses(AtOnce):
     def __init__(self, room: Room, name: str, outcomes: Outcomes, is_field: bool):
         super().__init__(room, name, outcomes, is_field)
         self.names = {it: weaker_forms.names_in(self.crate.body(it)) for it in self.functions}
+        self.called = {it: room.called(name, it) for it in self.functions}
         self.inner: Dict[Function, Set[Function]] = {}  # which functions of the crate each calls
         for it in self.functions:
-            named = [one for one in self.functions if one.is_called_in(self.names[it])]
+            named = [one for one in self.functions if self.may_call(it, self.crate, one)]
             self.inner[it] = set(named) - {it}
         self.needs: Dict[Function, Set[Key]] = {}  # what each may need that is weakened
         self.of: Dict[Form, List[Function]] = {}  # who may need what a form weakens
@@ -59,6 +60,18 @@ class Witnesses(AtOnce):
         self.apart: Set[Tuple[Key, Function]] = set()  # whose forms a witness is tried on alone
         self.unfit: Set[Function] = set()  # functions that aren't proved over stand-ins
         self.most: Optional[int] = None  # witnesses of a form that are tried, if not all
+
+    def may_call(self, caller: Function, crate: Crate, it: Function) -> bool:
+        """Returns whether a function here may call one of this crate, or of a crate below it.
+
+        A caller has the name in its body. If the code of both functions is known, the caller's
+        code has to name the other function, too.
+        """
+        if not it.is_called_in(self.names[caller]):
+            return False
+        called, path = self.called[caller], crate.path_of(it)
+        is_known = not it.is_of_trait and path in self.room.code(crate.name).known
+        return called is None or not is_known or path in called
 
     def check(self, forms: List[Form], real: List[Function]) -> str:
         """Checks functions of the crate, which are no stand-ins."""
@@ -234,8 +247,10 @@ class Callers(Witnesses):
     def __init__(self, room: Room, name: str, outcomes: Outcomes):
         super().__init__(room, name, outcomes, False)
         owners = {it.key(): self.owner(it) for it in self.forms}
-        for it, names in self.names.items():
-            called = {key for key, one in owners.items() if one != it and one.is_called_in(names)}
+        crates = {key: room.crates[key[0]] for key in owners}
+        for it in self.functions:
+            others = [key for key, one in owners.items() if one != it]
+            called = {key for key in others if self.may_call(it, crates[key], owners[key])}
             self.needs[it] = called
         self.words = {it: set(WORD.findall(self.crate.own_text(it))) for it in self.functions}
         self.below = [room.crates[it] for it in (name, *sorted(room.under[name]))]
@@ -247,12 +262,16 @@ class Callers(Witnesses):
         return self.checked(self.with_stand_ins(self.sources(self.forms), forms, real), only)
 
     def dropped(self) -> List[Form]:
-        """Returns, of each clause that is left and that a function here may need, the least form.
+        """Returns, of each clause that is left and has a caller to try, the least form.
 
         This form drops the clause, even if only a direction of the clause is left.
         """
-        left = [it for it in self.outcomes.left(self.forms) if self.of[it]]
+        left = [it for it in self.outcomes.left(self.forms) if self.has_more(it)]
         return list(dict.fromkeys(it._replace(label="nothing", left=()) for it in left))
+
+    def has_more(self, form: Form) -> bool:
+        """Returns whether a function here may need a form's clause and wasn't tried on it."""
+        return any((form, it) not in self.tried for it in self.of[form])
 
     def missed(self, forms: List[Form], text: str) -> Dict[Form, str]:
         """Returns the forms, of those that a check had at once, that errors of callers name.
@@ -287,25 +306,29 @@ class Callers(Witnesses):
         for caller in self.functions:
             who = "::".join([self.crate.name, *self.crate.place(caller)])
             for step, clause in set(CITED.findall(self.proofs[caller])):
-                for key in self.callees(caller, step.split("-"), clause):
-                    if (key, clause) in forms:
-                        found[forms[key, clause]] = f"refused by {who}, which cites c.{step}"
+                names = self.named(caller, step)
+                key = self.callee(caller, names, clause)
+                form = forms.get((key, clause)) if key else None
+                if form and not self.room.has_in_kit(names, clause):
+                    found[form] = f"refused by {who}, which cites c.{step}"
         self.outcomes.settle(found)
 
-    def callees(self, caller: Function, words: List[str], clause: str) -> List[Key]:
-        """Returns the function that a step with these words calls, if only one can be meant."""
+    def named(self, caller: Function, step: str) -> List[str]:
+        """Returns the words of a step's name that are names in the caller's body."""
         names = self.names[caller]
-        called = [it for it in words if it in names.members | names.plain]
+        return [it for it in step.split("-") if it in names.members | names.plain]
+
+    def callee(self, caller: Function, names: List[str], clause: str) -> Optional[Key]:
+        """Returns the function of a name that a caller means, if only one has the clause."""
         found: List[Key] = []
         for each in self.below:
             for functions in each.functions.values():
-                for it in [it for it in functions if it.name in called]:
+                for it in [it for it in functions if it.name in names]:
                     ensured = it.ensured()
                     is_meant = clause in ensured and (clause or len(ensured) == 1)
-                    if is_meant and it.is_called_in(names) and it != caller:
+                    if is_meant and it != caller and self.may_call(caller, each, it):
                         found.append((each.name, it.path, it.title()))
-        of_kit = any(clause in self.room.of_kit.get(it, ()) for it in called)
-        return found if len(found) == 1 and not of_kit else []
+        return found[0] if len(found) == 1 else None
 
     def witnesses(self, form: Form) -> List[Function]:
         """Returns the functions that call a form's function, the likeliest to refuse it first.

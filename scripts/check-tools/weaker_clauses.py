@@ -1,14 +1,19 @@
 """What scripts/weaken.py makes of public clauses and of records, what it tries together, and how it reads a check."""
 import contextlib
 import io
+import json
+import os
 import pathlib
+import shutil
 import sys
 import tempfile
 
-from cases import TOOLS, same
+from cases import Skipped, TOOLS, same
 
 sys.path.insert(0, str(TOOLS.parent / 'scripts'))
+import built_code       # noqa: E402
 import stand_ins        # noqa: E402
+import weaken           # noqa: E402
 import weaken_calls     # noqa: E402
 import weaken_fields    # noqa: E402
 import weaken_readers   # noqa: E402
@@ -320,11 +325,136 @@ PROOFS = {
     'one': 'returns c = sym c.twice.ensures\n',
     'both': 'returns c = c.in-size.ensures.most\n\nother c = c.size.ensures.of_kit c.twice.result\n',
 }
+# Two types have a method of the same name.
+LOW_OF_TYPES = """pub struct Few {
+    size: usize,
+}
+
+pub struct Row {
+    size: usize,
+}
+
+impl Few {
+    pub fn new() -> Few
+        ensures { result.size ≡ 0 }
+    {
+        Few { size: 0 }
+    }
+
+    pub fn size(&self) -> usize
+        ensures most { result ≤ 2 }
+    {
+        self.size
+    }
+}
+
+impl Row {
+    pub fn size(&self) -> usize
+        ensures most { result ≤ 9 }
+    {
+        self.size
+    }
+}
+"""
+HIGH_OF_TYPES = """use low::{Few, Row};
+
+fn of_few(few: &Few) -> usize {
+    few.size()
+}
+
+fn of_row(row: Option<&Row>) -> usize {
+    row.map_or(0, Row::size)
+}
+
+fn inside(few: Option<&Few>) -> usize {
+    few.map_or(0, |it| it.size())
+}
+
+fn of_list(few: &[Few]) -> usize {
+    few.size()
+}
+"""
+
+
+def calling(*names):
+    """The code of a function that calls some functions."""
+    return {'params': 0, 'body': ['Seq', *({'Call': [{'Fn': [it, {'types': [{'Int': 8}]}]}, []]} for it in names), 'Return']}
+
+
+CODE_OF_TYPES = {
+    'low': [['low::Few::new', calling()], ['low::Few::size', calling()], ['low::Row::size', calling()]],
+    'high': [
+        ['high::of_few', calling('low::Few::size')],
+        ['high::low++Row++size+FnOnce::call_once', calling('low::Row::size')],
+        ['high::of_row', calling('core::option::Option::map_or', 'high::low++Row++size+FnOnce::call_once')],
+        ['high::fn::inside::map_or', calling('low::Few::size')],
+        ['high::fn::inside::map_or+FnOnce::call_once', calling('high::fn::inside::map_or')],
+        ['high::inside', calling('core::option::Option::map_or', 'high::fn::inside::map_or+FnOnce::call_once')],
+        ['high::of_list', calling('core::slice::size')],
+    ],
+}
+SIZE_OF_FEW, SIZE_OF_ROW, NEW_FEW = 'Few::size.most: nothing', 'Row::size.most: nothing', 'Few::new: nothing'
+# By the names alone, all four functions may call each of the two methods.
+BY_NAME = ['inside', 'of_few', 'of_list', 'of_row']
+# The code, and who may call the two methods by it.
+CODES_OF_TYPES = [
+    (CODE_OF_TYPES, ['inside', 'of_few'], ['of_row']),
+    # No crate is built, or only one.
+    ({}, BY_NAME, BY_NAME),
+    ({'high': CODE_OF_TYPES['high']}, BY_NAME, BY_NAME),
+    ({'low': CODE_OF_TYPES['low']}, BY_NAME, BY_NAME),
+    # A function is missing in the code of its crate, once a caller and once a method.
+    ({**CODE_OF_TYPES, 'high': CODE_OF_TYPES['high'][:-1]}, ['inside', 'of_few', 'of_list'], ['of_list', 'of_row']),
+    ({**CODE_OF_TYPES, 'low': CODE_OF_TYPES['low'][:-1]}, ['inside', 'of_few'], BY_NAME),
+    # The files have another form.
+    ({**CODE_OF_TYPES, 'high': {'of_few': []}}, BY_NAME, BY_NAME),
+    ({**CODE_OF_TYPES, 'high': [[it] for it in CODE_OF_TYPES['high']]}, BY_NAME, BY_NAME),
+    ({**CODE_OF_TYPES, 'high': '[["high::of_few", {'}, BY_NAME, BY_NAME),
+]
+OWN_TYPES = """pub struct One {}
+
+pub struct Two {}
+
+impl One {
+    fn size(&self) -> usize {
+        1
+    }
+}
+
+impl Two {
+    fn size(&self) -> usize {
+        2
+    }
+
+    fn twice(&self) -> usize {
+        2 * self.size()
+    }
+}
+"""
+CODE_OF_OWN = {'high': [
+    ['high::One::size', calling()],
+    ['high::Two::size', calling()],
+    ['high::Two::twice', calling('high::Two::size')],
+]}
+# Two modules have a type of the same name, so nobody knows of which one a method is.
+METHODS = [
+    ['high::a::Pair::size', calling('low::one')],
+    ['high::a::PairDisplay::fmt', calling('low::two')],
+    ['high::fn::PairDisplay::fmt::map', calling('low::three')],
+    ['high::show', calling('high::a::PairDisplay::fmt', 'high::only')],
+    ['high::only', calling('low::four')],
+]
+CALLED_IN_CODE = (
+    [None, ['low::two'], ['low::four'], None, None],
+    ['low::three', 'low::two'],
+    None,
+)
+PATHS = ['high::a::Pair::size', 'high::a::Pair::size', 'high::show', 'high::only', 'high::tests::holds']
 
 
 @contextlib.contextmanager
-def room(proofs=(), specs='', low=LOW, high=HIGH):
-    """Two crates, one above the other, with some answers of the upper one's functions and records of the lower one."""
+def room(proofs=(), specs='', low=LOW, high=HIGH, code=()):
+    """Two crates, one above the other, with some answers of the upper one's functions, records of the lower one and built code."""
     with tempfile.TemporaryDirectory() as top:
         for name, text in (('low', low), ('high', high)):
             folder = pathlib.Path(top) / 'crates' / name / 'src'
@@ -337,6 +467,9 @@ def room(proofs=(), specs='', low=LOW, high=HIGH):
         if specs:
             (pathlib.Path(top) / 'crates' / 'low' / 'specs').mkdir()
             (pathlib.Path(top) / 'crates' / 'low' / 'specs' / 'A.antt').write_text(specs, encoding='utf-8')
+        for name, functions in dict(code).items():
+            built = pathlib.Path(top) / 'crates' / name / 'out' / 'rlib' / f'{name}.rlib'
+            writes_code(built, functions)
         (pathlib.Path(top) / 'crates.txt').write_text('low:\nhigh: low\n', encoding='utf-8')
         tops, stand_ins.TOPS = stand_ins.TOPS, ('high',)
         kit, stand_ins.printed = stand_ins.printed, lambda *_: '/kit/page'
@@ -344,6 +477,77 @@ def room(proofs=(), specs='', low=LOW, high=HIGH):
             yield stand_ins.Room(f'{top}/room', top, 1)
         finally:
             stand_ins.TOPS, stand_ins.printed = tops, kit
+
+
+def writes_code(library, functions):
+    """Writes the code of a library. A text is written as it is."""
+    (library / 'toolchain').mkdir(parents=True)
+    text = functions if isinstance(functions, str) else json.dumps(functions)
+    (library / built_code.CODE).write_text(text, encoding='utf-8')
+
+
+def callers_by_code(code):
+    """Which functions may call two methods of the same name, and which forms are of functions that some function calls."""
+    with room(low=LOW_OF_TYPES, high=HIGH_OF_TYPES, code=code) as made:
+        outcomes = weaken_readers.Outcomes(made.crates['low'].forms())
+        of = {it.title(): sorted(who.name for who in found) for it, found in weaken_calls.Callers(made, 'high', outcomes).of.items()}
+        called = sorted(it.title() for it in outcomes.called)
+        return of[SIZE_OF_FEW], of[SIZE_OF_ROW], of[NEW_FEW], called
+
+
+def cited_by_code(code):
+    """What refuses the clauses of two methods of the same name, if a proof cites the clause of one of them."""
+    proofs = {'of_few': 'returns c = c.size.ensures.most\n'}
+    with room(proofs, low=LOW_OF_TYPES, high=HIGH_OF_TYPES, code=code) as made:
+        made.of_kit = {}
+        outcomes = weaken_readers.Outcomes(made.crates['low'].forms())
+        with contextlib.redirect_stdout(io.StringIO()):
+            weaken_calls.Callers(made, 'high', outcomes).settles_at_once()
+        return {it.title(): who for it, who in outcomes.settled.items()}
+
+
+def calls_of_own(code):
+    """Whom each function of a crate may call in the crate itself."""
+    with room(high=OWN_TYPES, code=code) as made:
+        callers = weaken_calls.Callers(made, 'high', weaken_readers.Outcomes([]))
+        return {it.title(): sorted(one.title() for one in found) for it, found in callers.inner.items() if found}
+
+
+def dropped_at_once(tried):
+    """Which clauses are dropped at once, if some functions were tried on all of them."""
+    with room(low=LOW_OF_TYPES, high=HIGH_OF_TYPES, code=CODE_OF_TYPES) as made:
+        callers = weaken_calls.Callers(made, 'high', weaken_readers.Outcomes(made.crates['low'].forms()))
+        callers.tried.update((form, it) for form in callers.forms for it in callers.functions if it.name in tried)
+        return [it.title() for it in callers.dropped()]
+
+
+def untold(code):
+    """What is said of a form that nothing refuses, by whether some function calls its function."""
+    with room(low=LOW_OF_TYPES, high=HIGH_OF_TYPES, code=code) as made:
+        forms = made.crates['low'].forms()
+        outcomes = weaken_readers.Outcomes(forms)
+        weaken_calls.Callers(made, 'high', outcomes)
+        return {it.title(): weaken.held(made, it, it in outcomes.called) for it in forms}
+
+
+def called_in_code():
+    """What is called by functions, by methods of traits, and by those of which the code says nothing."""
+    with tempfile.TemporaryDirectory() as top:
+        library = pathlib.Path(top) / 'high.rlib'
+        writes_code(library, METHODS)
+        code = built_code.Code(str(library), PATHS)
+        outer = [names and sorted(it for it in names if it.startswith('low')) for names in map(code.called, [*PATHS[1:], 'high::else'])]
+        return outer, sorted(code.called_by_methods('fmt')), code.called_by_methods('next')
+
+
+def code_of_kit():
+    """Fails if the code of a library of the kit doesn't say whom a function calls."""
+    if not shutil.which('rt'):
+        raise Skipped('there is no kit')
+    kit = os.path.dirname(stand_ins.printed(['rt', 'doc']).strip())
+    new, text = 'itoa::Buffer::new', 'itoa::Buffer::format'
+    code = built_code.Code(f'{kit}/rlibs/itoa.rlib', [new, text])
+    same((code.known, new in code.called(text), new in code.called_by_methods('default')), ({new, text}, False, True))
 
 
 def rounds_of_two_crates(refusing):
@@ -618,6 +822,24 @@ def check(_program):
     yield 'clauses that proofs cite', lambda: same(cited_clauses({}), CITED)
     most = {name: who for name, who in CITED.items() if 'twice' in name}
     yield 'a clause that a function of the kit may have', lambda: same(cited_clauses({'size': {'most'}}), most)
+    for number, (code, of_few, of_row) in enumerate(CODES_OF_TYPES):
+        wanted = (of_few, of_row, [], sorted([SIZE_OF_FEW, SIZE_OF_ROW]))
+        yield f'callers by the code of libraries, {number}', lambda code=code, wanted=wanted: same(callers_by_code(code), wanted)
+    wanted = {'Two::twice': ['One::size', 'Two::size']}
+    yield 'calls of two methods by their name', lambda: same(calls_of_own({}), wanted)
+    by_code = {'Two::twice': ['Two::size']}
+    yield 'calls of two methods by the code', lambda: same(calls_of_own(CODE_OF_OWN), by_code)
+    yield 'a clause that two methods have', lambda: same(cited_by_code({}), {})
+    one = {SIZE_OF_FEW: 'refused by high::of_few, which cites c.size'}
+    yield 'a clause of the one method that is called', lambda: same(cited_by_code(CODE_OF_TYPES), one)
+    uncalled = {**CODE_OF_TYPES, 'high': [[name, calling()] for name, _ in CODE_OF_TYPES['high']]}
+    said = {it: 'REFUSED BY NOTHING: no function calls it' for it in (NEW_FEW, SIZE_OF_FEW, SIZE_OF_ROW)}
+    dropped = [dropped_at_once(tried) for tried in ([], ['of_few', 'of_row'], ['of_few', 'of_row', 'inside'])]
+    wanted = [[SIZE_OF_FEW, SIZE_OF_ROW], [SIZE_OF_FEW], []]
+    yield 'a clause whose callers were all tried is not dropped', lambda: same(dropped, wanted)
+    yield 'methods that no function calls', lambda: same(untold(uncalled), said)
+    yield 'what code calls', lambda: same(called_in_code(), CALLED_IN_CODE)
+    yield 'the code of a library of the kit', code_of_kit
     names = weaker_forms.clause_names(SOURCE)
     yield 'the names of clauses', lambda: same(names, {'meets': {'met', 'kept'}, 'own': {''}, 'plain': set()})
     yield 'what is tried together', lambda: same(rounds_of_two_crates(set()), ROUNDS)
