@@ -42,6 +42,15 @@ pub fn matches(board: &Board, plan: &Plan, fault: Single, log: &Log) -> bool
     fault_sim::matches(board, plan, fault, log)
 }
 
+/// Returns the universe of the board, which numbers the board's possible single faults. The plan must be built from the board's passes.
+pub fn universe(alloc: Global, board: &Board, plan: &Plan) -> Result<Universe, AllocError>
+    requires plan { IsPlanOf board.now plan.now }
+    requires passes { plan.now.passes ≡ passes_of board.now }
+    ensures { IfOk result (λ universe. IsUniverse board.now universe) }
+{
+    Universe::new(alloc, board, plan)
+}
+
 /// Returns the number of places of the universe. The universe of a board numbers its possible single faults, and the number of a fault is
 /// its place. There are two places for each covered net, two for each tested pin and four for each pair of covered nets.
 pub fn place_count(universe: &Universe) -> u64

@@ -1,9 +1,18 @@
-//! Calls of `bt_base` that make a sink in memory, read the bytes that it took, and make its puts fail.
+//! Calls of `bt_base` that make a sink over a writer, make a sink in memory, read the bytes that a sink in memory took, and make its puts
+//! fail.
 ghost use Rattle.std.specs.Prelude.{◌≡◌, [], ◌∷◌, ◌++◌, IfOk, OnOk, OnErr};
 ghost use Rattle.bt_base.specs.MemSink.{taken_of, room_of, puts_of, faults_of, failing_of};
 
-use bt_base::MemSink;
+use bt_base::{HostSink, MemSink};
 use std::alloc::{AllocError, Global};
+use std::io::Write;
+
+/// Creates a sink over the writer. Its fault count is 0.
+pub fn writer_sink<W: Write>(to: W) -> HostSink<W>
+    ensures { result.faults ≡ 0 }
+{
+    HostSink::over(to)
+}
 
 /// Creates an empty sink with room for `room` bytes. No put is chosen to fail.
 pub fn sink_with_room(alloc: Global, room: u32) -> Result<MemSink, AllocError>

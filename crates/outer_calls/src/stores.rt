@@ -1,9 +1,19 @@
-//! Calls of `bt_base` that make a store in memory, add texts to it, and make its fetches fail.
+//! Calls of `bt_base` that make a store over the system's files, make a store in memory, add texts to a store in memory, and make its
+//! fetches fail.
 ghost use Rattle.std.specs.Prelude.{◌≡◌, ◌≢◌, ℕ, List, [], ◌∷◌, ◌++◌, None, Some, OnOk, OnErr};
 ghost use Rattle.bt_base.specs.Memory.{held_text, failing_of, fetches_of, faults_of, asked_of};
 
-use bt_base::MemStore;
+use bt_base::{HostStore, MemStore};
 use std::alloc::{AllocError, Global};
+use std::rt::Files;
+
+/// Creates a store over the system's files. Its fault count is 0, and nothing has been fetched from it.
+pub fn file_store<R: Files>(rt: &R) -> HostStore<'_, R>
+    ensures faults { result.faults ≡ 0 }
+    ensures asked { result.asked.names ≡ [] }
+{
+    HostStore::over(rt)
+}
 
 /// Creates an empty store. No fetch is chosen to fail.
 pub fn empty_store(alloc: Global) -> MemStore

@@ -1,0 +1,8 @@
+-- The search proves these clauses without the clauses of the called function, too. These answers need those clauses.
+use Rattle.outer_calls.proofs.rows.read_hex.Goals as goal
+
+pub returns-clause-length : goal.returns-clause-length
+returns-clause-length c = c.read_hex.ensures.length
+
+pub returns-clause-digit : goal.returns-clause-digit
+returns-clause-digit c = c.read_hex.ensures.digit
