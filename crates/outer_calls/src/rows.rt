@@ -24,6 +24,15 @@ pub fn empty_row(alloc: Global, room: u32) -> Result<Row, AllocError>
     Row::with_room(alloc, room)
 }
 
+/// Replaces the bits of the row by `bits`. The row must have room for them.
+pub fn copy_bits(row: &mut Row, bits: &[bool])
+    requires { length bits.now ≤ row.old.room }
+    ensures bits { row.new.bits ≡ bits.now }
+    ensures room { row.new.room ≡ row.old.room }
+{
+    row.copy_from(bits);
+}
+
 /// Returns the number of bits of the row, which is at most the row's room.
 pub fn row_length(row: &Row) -> u32
     ensures value { result ≡ length row.now.bits }

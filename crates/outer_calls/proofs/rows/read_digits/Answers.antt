@@ -1,4 +1,4 @@
--- The search proves these clauses without the clauses of the called function, too. These answers need those clauses.
+-- The search proves one direction of each clause without the clause of the called function, too. These answers need both clauses whole.
 use Rattle.outer_calls.proofs.rows.read_digits.Goals as goal
 
 pub returns-clause-length : goal.returns-clause-length
