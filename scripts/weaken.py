@@ -56,8 +56,10 @@ If it isn't proved then either, it counts for nothing.
 
 The script prints of each form what refuses it, which must-fail edits change the function or the
 record, or that nothing refuses it. A form that nothing refuses needs an edit, a sample or a caller,
-as those in outer_calls. Whether a named edit breaks the very clause, a reader has to judge. The
-exit status is 1 if there is a form that nothing refuses or that could not be tried.
+as those in outer_calls. Whether a named edit breaks the very clause, a reader has to judge. No
+proof can need a clause of the crates at the top: promises, whose clauses are what the README says,
+and outer_calls, whose clauses are those of the functions that it calls. The exit status is 1 if
+there is a form elsewhere that nothing refuses, or one that could not be tried.
 
 With --checked DIR the sources and the built libraries are those of DIR, in which `rt ci` proved
 them. Otherwise `rt ci` first proves the crates of this checkout in a copy beside the room, except
@@ -78,7 +80,7 @@ from typing import Dict, Iterator, List, Optional, Set, Tuple
 
 import build
 import must_fail
-from stand_ins import ROOM, Crate, Room, proved, read
+from stand_ins import ROOM, TOPS, Crate, Room, proved, read
 from weaken_calls import Callers
 from weaken_fields import Namers, Users
 from weaken_readers import Outcomes, kept_in, name_of, owner_at
@@ -118,6 +120,8 @@ def held(room: Room, form: Form, is_called: bool) -> str:
     own = [it for it in crate.functions.get(form.path, ()) if it.title() == form.owner]
     if any(it.is_public and it.body == it.last for it in own) and not is_called:
         return "a law for readers, which no function calls"
+    if crate.name in TOPS and own and not is_called:
+        return "at the top, where a reader judges the clause"
     why = ": no function calls it" if own and not is_called else ""
     return f"REFUSED BY NOTHING{why}"
 

@@ -530,6 +530,14 @@ def untold(code):
         return {it.title(): weaken.held(made, it, it in outcomes.called) for it in forms}
 
 
+def untold_at_top():
+    """What is said of the clauses of a crate at the top, which no function calls."""
+    with room(low=LOW_OF_TYPES, high=HIGH_OF_TYPES) as made:
+        forms = made.crates['low'].forms()
+        made.crates['low'].name = 'promises'
+        return {weaken.held(made, it, False) for it in forms}
+
+
 def called_in_code():
     """What is called by functions, by methods of traits, and by those of which the code says nothing."""
     with tempfile.TemporaryDirectory() as top:
@@ -838,6 +846,7 @@ def check(_program):
     wanted = [[SIZE_OF_FEW, SIZE_OF_ROW], [SIZE_OF_FEW], []]
     yield 'a clause whose callers were all tried is not dropped', lambda: same(dropped, wanted)
     yield 'methods that no function calls', lambda: same(untold(uncalled), said)
+    yield 'clauses at the top', lambda: same(untold_at_top(), {'at the top, where a reader judges the clause'})
     yield 'what code calls', lambda: same(called_in_code(), CALLED_IN_CODE)
     yield 'the code of a library of the kit', code_of_kit
     names = weaker_forms.clause_names(SOURCE)
